@@ -1,0 +1,76 @@
+ghost use Rattle.std.specs.Prelude.{◌≡◌, [], ◌∷◌, ◌++◌, IfOk, OnOk, OnErr, MatchResult};
+
+use std::alloc::{AllocError, Global};
+use std::marker::Model;
+
+/// A list that contracts see as its items alone, so that lists that lie inside a value are compared by what they hold.
+#[derive(Drop)]
+pub struct Seq<T> {
+    items: Vec<T>,
+}
+
+impl<T> Model for Seq<T> {
+    ghost use Rattle.std.specs.Prelude.{List};
+    ghost use Rattle.std.specs.Coded.{coded_list};
+
+    ghost Value = { List T };
+
+    ghost coded = { coded_list T.code };
+
+    ghost view = { λ a. a.items.items };
+}
+
+/// A list of bytes.
+pub type Text = Seq<u8>;
+
+impl<T> Seq<T> {
+    /// The empty list. It takes no memory.
+    pub fn new(alloc: Global) -> Self
+        ensures { result ≡ [] }
+    {
+        Seq {
+            items: Vec::new(alloc),
+        }
+    }
+
+    /// The items in order.
+    pub fn items(&self) -> &[T]
+        ensures { result.now ≡ self.now }
+    {
+        self.items.as_slice()
+    }
+
+    /// Makes room for `more` further items, or finds no memory. The items stay.
+    pub fn reserve(&mut self, more: usize) -> Result<(), AllocError>
+        ensures { self.new ≡ self.old }
+    {
+        self.items.reserve(more)
+    }
+
+    /// Appends the item. For want of memory it hands the item back, and the list stays.
+    pub fn push(&mut self, item: T) -> Result<(), T>
+        ensures { MatchResult result (λ _. self.new ≡ self.old ++ item ∷ []) (λ back. (self.new ≡ self.old) × (back ≡ item)) }
+    {
+        self.items.push(item).map_err(|refused| refused.value)
+    }
+}
+
+impl<T: Copy> Seq<T> {
+    /// A list of these items, in their order.
+    pub fn from_slice(alloc: Global, items: &[T]) -> Result<Self, AllocError>
+        ensures { IfOk result (λ seq. seq ≡ items.now) }
+    {
+        Ok(Seq {
+            items: Vec::from_slice(alloc, items)?,
+        })
+    }
+}
+
+impl Seq<u8> {
+    /// The text of these bytes.
+    pub fn from_bytes(alloc: Global, bytes: &[u8]) -> Result<Self, AllocError>
+        ensures { IfOk result (λ text. text ≡ bytes.now) }
+    {
+        Seq::from_slice(alloc, bytes)
+    }
+}
