@@ -1,0 +1,63 @@
+-- The bytes of an integer.
+use Rattle.std.proofs.Common.{◌≡◌, ℕ, ℤ, ◌<◌, Bool, true, false, ◌==◌, cond, List, [], ◌∷◌, drop, refl, arith}
+use Rattle.std.specs.List.{list_all}
+use Rattle.std.proofs.lemmas.Bool.{and_parts}
+use Rattle.std.specs.Str.{IsAscii, IsUtf8}
+use Rattle.std.specs.Str.Parse.{AllDigits}
+use Rattle.std.specs.Char.{digit_value}
+use Rattle.std.proofs.lemmas.Bool.Decides.{nat_tests}
+use Rattle.std.proofs.lemmas.Str.{IsUtf8-from_ascii}
+use Rattle.std.proofs.lemmas.Str.Ascii.{IsAscii-nil, IsAscii-cons}
+use Rattle.std.proofs.lemmas.Str.Parse.{digit_from_value}
+use Rattle.sexpr_reader.specs.Integer.{IsInteger}
+use Rattle.sexpr_reader.specs.Steps.{is_integer_byte}
+use Rattle.sexpr_reader.specs.WhiteSpace.{is_white_space}
+
+-- a digit is a byte of an integer
+digit_passes : (b : ℕ) → digit_value b < 10 → is_integer_byte b ≡ true
+digit_passes b h = let r = digit_from_value b h in grind (arith, nat_tests)
+
+digits_pass : (ds : List ℕ) → AllDigits 10 ds → list_all is_integer_byte ds ≡ true
+digits_pass [] h = refl
+digits_pass (b ∷ ds) h = rw (digit_passes b h.0) (digits_pass ds h.1)
+
+minus_passes : (b : ℕ) → (b == 45) ≡ true → is_integer_byte b ≡ true
+minus_passes b h = grind (arith, nat_tests)
+
+plus_passes : (b : ℕ) → (b == 43) ≡ true → is_integer_byte b ≡ true
+plus_passes b h = grind (arith, nat_tests)
+
+-- signs and digits alone
+signed_pass : (b : ℕ) (bs : List ℕ) (minus plus : Bool) → (b == 45) ≡ minus → (b == 43) ≡ plus
+    → AllDigits 10 (cond minus bs (drop (cond plus 1 0) (b ∷ bs))) → list_all is_integer_byte (b ∷ bs) ≡ true
+signed_pass b bs true plus m p h = rw (minus_passes b m) (digits_pass bs h)
+signed_pass b bs false true m p h = rw (plus_passes b p) (digits_pass bs h)
+signed_pass b bs false false m p h = rw (digit_passes b h.0) (digits_pass bs h.1)
+
+pub IsInteger-bytes : (word : List ℕ) (n : ℤ) → IsInteger word n → list_all is_integer_byte word ≡ true
+IsInteger-bytes [] n i = refl
+IsInteger-bytes (b ∷ bs) n i = signed_pass b bs (b == 45) (b == 43) refl refl i.digits.1
+
+-- an integer has a byte
+pub IsInteger-begins : (word : List ℕ) (n : ℤ) → IsInteger word n → (b : ℕ) × (bs : List ℕ) × (word ≡ b ∷ bs)
+IsInteger-begins [] n i = absurd (omega (arith, i.digits.0))
+IsInteger-begins (b ∷ bs) n i = (b, bs, refl)
+
+small : (b : ℕ) → is_integer_byte b ≡ true → b < 128
+small b h = grind (arith, nat_tests)
+
+ascii : (word : List ℕ) → list_all is_integer_byte word ≡ true → IsAscii word
+ascii [] h = IsAscii-nil
+ascii (b ∷ bs) h =
+    IsAscii-cons b bs (small b ((and_parts (is_integer_byte b) (list_all is_integer_byte bs) h).0)) (ascii bs ((and_parts (is_integer_byte b) (list_all is_integer_byte bs) h).1))
+
+-- an integer is a text
+pub IsInteger-utf8 : (word : List ℕ) (n : ℤ) → IsInteger word n → IsUtf8 word
+IsInteger-utf8 word n i = IsUtf8-from_ascii word (ascii word (IsInteger-bytes word n i))
+
+-- no byte is of an integer and white space
+pub apart : (b : ℕ) → is_integer_byte b ≡ true → is_white_space b ≡ false
+apart b h = grind (arith, nat_tests)
+
+pub apart_back : (b : ℕ) → is_white_space b ≡ true → is_integer_byte b ≡ false
+apart_back b h = grind (arith, nat_tests)

@@ -1,0 +1,5 @@
+pub mod Calls
+pub mod Cursors
+pub mod Integers
+pub mod Runs
+pub mod Sources
