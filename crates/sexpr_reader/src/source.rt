@@ -28,7 +28,7 @@ pub fn read(alloc: Global, bytes: &[u8]) -> Result<Forms, ReadNo>
     let mut reader = Reader::new(bytes);
     let mut forms = Forms::new(alloc);
     reader.run(Class::WhiteSpace);
-    while !reader.is_at_end() {
+    'forms: while !reader.is_at_end() {
         let Some(call) = read_call(&mut reader) else {
             return Err(refusal(ReadKind::NotYet));
         };

@@ -1,3 +1,4 @@
 pub mod formers
+pub mod Name
 pub mod Place
 pub mod Roomy

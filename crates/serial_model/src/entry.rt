@@ -1,0 +1,8 @@
+use value_core::Name;
+
+/// One step of a history.
+#[derive(Debug, Drop)]
+pub enum Entry {
+    /// The unit of that name goes to its next effect and does it whole, or finishes.
+    Run(Name),
+}
