@@ -1,0 +1,21 @@
+-- Files in memory.
+use Rattle.std.specs.Prelude.{ℕ, List, Result, Ok, Err}
+use Rattle.world_io.specs.Counts.{raised}
+use Rattle.world_io.specs.FailPlan.{Plan}
+use Rattle.world_io.specs.declared.files.FileItem.{FileItem}
+use Rattle.world_io.specs.declared.files.FileNo.{FileNo}
+use Rattle.world_io.specs.declared.files.FileNo.TheVariants.{Failed, Absent, TooLong, Memory}
+
+-- the files, which calls fail, and how many reads have failed
+pub record FilesInMemory : Type 0 where
+  pub held : List FileItem
+  pub plan : Plan
+  pub read_faults : ℕ
+
+-- the count after a read: one more after a failure, and as it was after every other answer
+abbrev pub faults_after : {T : Type 0} → Result T FileNo → ℕ → ℕ
+faults_after (Ok bytes) before = before
+faults_after (Err Failed) before = raised before
+faults_after (Err Absent) before = before
+faults_after (Err TooLong) before = before
+faults_after (Err Memory) before = before

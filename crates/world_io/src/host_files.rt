@@ -1,0 +1,64 @@
+ghost use Rattle.std.specs.Prelude.{◌≡◌, ◌≤◌, None, IfOk, IsErrOf, vec_len};
+
+use crate::counts::count_after_fault;
+use crate::files::{FileNo, Files};
+use crate::reads::read_within;
+use std::alloc::Global;
+use std::marker::Model;
+use std::{fs, rt};
+use value_core::Text;
+
+/// The files of the host. They tell nothing of what they hold, so a missing file answers `Failed`, as does a name that
+/// is no text.
+#[derive(Drop)]
+pub struct HostFiles<'a, R: rt::Files + Drop> {
+    host: &'a R,
+    read_faults: u64,
+    write_faults: u64,
+}
+
+impl<'a, R: rt::Files + Drop> Model for HostFiles<'a, R> {
+    ghost use Rattle.world_io.specs.HostFiles.{HostFaults};
+
+    ghost Value = { HostFaults };
+
+    ghost view = { λ f. record { of_reads = f.read_faults; of_writes = f.write_faults } };
+}
+
+impl<'a, R: rt::Files + Drop> HostFiles<'a, R> {
+    /// The files that this runtime reaches. No fault has come yet.
+    pub fn new(host: &'a R) -> Self
+        ensures { result ≡ record { of_reads = 0; of_writes = 0 } }
+    {
+        HostFiles {
+            host,
+            read_faults: 0,
+            write_faults: 0,
+        }
+    }
+
+    fn read_host(&self, alloc: Global, name: &Text, limit: usize) -> Result<Vec<u8>, FileNo>
+        ensures within { IfOk result (λ bytes. vec_len bytes ≤ limit) }
+        ensures not_absent { IsErrOf result FileNo.Absent → ⊥ }
+    {
+        let path = str::from_utf8(name.items()).map_err(|_| FileNo::Failed)?;
+        let mut file = fs::open(self.host, path).map_err(|_| FileNo::Failed)?;
+        read_within(alloc, &mut file, limit)
+    }
+}
+
+impl<'a, R: rt::Files + Drop> Files for HostFiles<'a, R> {
+    ghost held = { λ _. None };
+
+    ghost read_faults = { λ f. f.of_reads };
+
+    ghost write_faults = { λ f. f.of_writes };
+
+    fn read(&mut self, alloc: Global, name: &Text, limit: usize) -> Result<Vec<u8>, FileNo> {
+        let answer = self.read_host(alloc, name, limit);
+        if let Err(FileNo::Failed) = answer {
+            self.read_faults = count_after_fault(self.read_faults);
+        }
+        answer
+    }
+}
