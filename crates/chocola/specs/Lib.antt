@@ -1,0 +1,6 @@
+pub mod Lines
+pub mod Load
+pub mod Outcome
+pub mod Program
+pub mod Run
+pub mod Words

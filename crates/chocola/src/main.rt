@@ -1,0 +1,38 @@
+//! The program: it reads the words of its command line, does what they say, and ends with the status of the outcome.
+#![tactic(auto)]
+
+mod lines;
+mod load;
+mod outcome;
+mod run;
+mod top;
+mod words;
+
+use std::env;
+use std::process::ExitCode;
+use std::rt::Env;
+use top::chocola;
+use world_io::{HostErr, HostFiles, HostOut};
+
+fn main(rt: HostRuntime) -> ExitCode {
+    let words = command_words(&rt);
+    let outcome = chocola(
+        rt.alloc(),
+        words.as_slice(),
+        &mut HostFiles::new(&rt),
+        &mut HostOut::new(rt.stdout()),
+        &mut HostErr::new(rt.stderr()),
+    );
+    ExitCode::from(outcome.status)
+}
+
+/// The words after the program's name, and none where the host doesn't give them as text.
+fn command_words<R: Env + AllocGlobal>(rt: &R) -> Vec<String> {
+    match env::args(rt) {
+        Ok(words) => words
+            .skip(1)
+            .collect(rt.alloc())
+            .unwrap_or(Vec::new(rt.alloc())),
+        Err(_) => Vec::new(rt.alloc()),
+    }
+}

@@ -1,0 +1,80 @@
+ghost use Rattle.std.specs.Prelude.{◌≡◌, [], None};
+ghost use Rattle.chocola.specs.Outcome.{kind_number};
+
+use serial_model::{End, History};
+use sexpr_reader::ReadKind;
+use std::alloc::Global;
+use value_core::Place;
+
+/// What the program was told of, and what became of it.
+#[derive(Drop)]
+pub struct Outcome {
+    /// The exit status.
+    pub status: u8,
+    /// The entries of the run, in the order in which one thread can replay them.
+    pub history: History,
+    /// The end of the run, where it came to one.
+    pub end: Option<End>,
+    pub detail: Detail,
+}
+
+/// More of an outcome.
+#[derive(Clone, Copy, Debug, PartialEq, Eq)]
+pub enum Detail {
+    Nothing,
+    /// A part of what was read is refused, with the number of the refusal and its place.
+    Refused {
+        part: Part,
+        kind: u8,
+        line: u64,
+        column: u64,
+    },
+}
+
+/// A part of what the program reads.
+#[derive(Clone, Copy, Debug, PartialEq, Eq)]
+pub enum Part {
+    Source,
+}
+
+impl Detail {
+    ghost use Rattle.chocola.specs.Outcome.{refused_as};
+
+    /// The source is refused with that kind at that place.
+    pub fn refused(kind: ReadKind, at: Place) -> Self
+        ensures { result ≡ refused_as kind at }
+    {
+        Detail::Refused {
+            part: Part::Source,
+            kind: kind_number(kind),
+            line: u64::from(at.line()),
+            column: u64::from(at.column()),
+        }
+    }
+}
+
+fn kind_number(kind: ReadKind) -> u8
+    ensures { result ≡ kind_number kind }
+{
+    match kind {
+        ReadKind::TooLong => 7,
+        ReadKind::NotYet => 8,
+    }
+}
+
+impl Outcome {
+    /// The outcome of words that lead to no run.
+    pub fn without_run(alloc: Global, status: u8, detail: Detail) -> Self
+        ensures status { result.status ≡ status }
+        ensures history { result.history.items ≡ [] }
+        ensures end { result.end ≡ None }
+        ensures detail { result.detail ≡ detail }
+    {
+        Outcome {
+            status,
+            history: History::new(alloc),
+            end: None,
+            detail,
+        }
+    }
+}
