@@ -36,3 +36,6 @@ fn command_words<R: Env + AllocGlobal>(rt: &R) -> Vec<String> {
         Err(_) => Vec::new(rt.alloc()),
     }
 }
+
+#[cfg(test)]
+mod tests;

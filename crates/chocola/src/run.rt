@@ -55,15 +55,15 @@ fn run_main(
 fn print_next(
     alloc: Global,
     n: &i64,
-    history: &mut History,
+    entries: &mut History,
     output: &mut Vec<u8>,
 ) -> Result<(), AllocError>
-    ensures entry { OnOk result (history.new.items ≡ history.old.items ++ RunEntry main_name ∷ []) }
+    ensures entry { OnOk result (entries.new.items ≡ entries.old.items ++ RunEntry main_name ∷ []) }
     ensures printed { OnOk result (output.new.items ≡ output.old.items ++ line n.now) }
-    ensures err { OnErr result (history.new.items ≡ history.old.items) }
+    ensures err { OnErr result (entries.new.items ≡ entries.old.items) }
 {
     print(output, n)?;
-    settle_main(alloc, history)
+    settle_main(alloc, entries)
 }
 
 /// Adds an entry of main.

@@ -15,7 +15,7 @@ loop-n-preserved c = rw (c.in_ok-print_next.ensures.entry, c.in_ok-print_next.en
 
 pub returns-in_err-print_next-clause-err : goal.returns-in_err-print_next-clause-err
 returns-in_err-print_next-clause-err c =
-    let stopped : RunsTo c.args.program.now c.print_next.new.history.items c.print_next.new.output.items None =
+    let stopped : RunsTo c.args.program.now c.print_next.new.entries.items c.print_next.new.output.items None =
     rw c.in_err-print_next.ensures.err (IsAfter-stop c.args.program.now _ c.loop-n.history.items c.loop-n.output.items _ c.loop-n.invariant) in
     on_err _ stopped
 

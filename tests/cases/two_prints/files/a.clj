@@ -1,0 +1,1 @@
+(println 7)(println -0)

@@ -1,0 +1,4 @@
+ 	
+,(,println	
+1),,(
+println,2,),
