@@ -1,4 +1,10 @@
+pub mod Depth
 pub mod formers
+pub mod Futures
+pub mod Key
 pub mod Name
+pub mod NameText
+pub mod Pairs
 pub mod Place
 pub mod Roomy
+pub mod ToKey

@@ -1,4 +1,4 @@
-ghost use Rattle.std.specs.Prelude.{◌≡◌, [], ◌∷◌, ◌++◌, IfOk, OnOk, OnErr, MatchResult};
+ghost use Rattle.std.specs.Prelude.{◌≡◌, ◌<◌, length, slice_set, [], ◌∷◌, ◌++◌, IfOk, OnOk, OnErr, MatchResult};
 
 use std::alloc::{AllocError, Global};
 use std::marker::Model;
@@ -55,7 +55,32 @@ impl<T> Seq<T> {
     }
 }
 
+impl<T: Drop> Seq<T> {
+    /// Puts the item at the index, in the place of the one that is there. It takes no memory.
+    pub fn set(&mut self, index: usize, item: T)
+        requires { index < length self.old }
+        ensures { self.new ≡ slice_set self.old index item }
+    {
+        self.items[index] = item;
+    }
+}
+
 impl<T: Copy> Seq<T> {
+    /// An equal list.
+    pub fn copy(&self, alloc: Global) -> Result<Self, AllocError>
+        ensures { IfOk result (λ seq. seq ≡ self.now) }
+    {
+        Seq::from_slice(alloc, self.items())
+    }
+
+    /// Appends these items, in their order. For want of memory the list stays.
+    pub fn extend(&mut self, items: &[T]) -> Result<(), AllocError>
+        ensures ok { OnOk result (self.new ≡ self.old ++ items.now) }
+        ensures err { OnErr result (self.new ≡ self.old) }
+    {
+        self.items.extend_from_slice(items)
+    }
+
     /// A list of these items, in their order.
     pub fn from_slice(alloc: Global, items: &[T]) -> Result<Self, AllocError>
         ensures { IfOk result (λ seq. seq ≡ items.now) }

@@ -1,0 +1,8 @@
+use Rattle.std.proofs.Common.{◌≡◌, ◌++◌, drop}
+use Rattle.std.specs.Prelude.{codes}
+use Rattle.std.specs.List.{flat_map}
+use Rattle.value_print.specs.Texts.{escaped}
+use Rattle.value_print.proofs.print.push_quoted.Given as goal
+
+abbrev pub invariant-loop-byte : goal.invariant-loop-byte
+invariant-loop-byte l = l.text ++ flat_map escaped (drop l.byte-index l.string) ≡ l.initial.text ++ flat_map escaped l.string

@@ -1,0 +1,11 @@
+//! Values as texts: the line that `println` prints, the string that `str` makes, and the text from which a value can be
+//! read again.
+#![tactic(auto)]
+
+mod print;
+mod style;
+#[cfg(test)]
+mod tests;
+
+pub use print::{print_line, readable, str_of};
+pub use style::Style;
