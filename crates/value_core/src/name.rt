@@ -7,6 +7,7 @@ use itoa::Buffer;
 use std::alloc::{AllocError, Global};
 use std::cmp::Ordering;
 use std::marker::Model;
+use thiserror::Error;
 
 /// The name of a unit, or of a thing that a unit or a task made: one or more numbers. The first thing that `p` makes is
 /// `p` with a 0 more, and main is 0 alone.
@@ -109,9 +110,11 @@ impl Name {
 }
 
 /// Why bytes are read as no name: they are none, or there was no memory.
-#[derive(Clone, Copy, Debug, PartialEq, Eq)]
+#[derive(Clone, Copy, Debug, PartialEq, Eq, Error)]
 pub enum NameNo {
+    #[error("not a name")]
     BadName,
+    #[error("out of memory")]
     Memory,
 }
 

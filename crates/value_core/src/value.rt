@@ -6,6 +6,7 @@ ghost use Rattle.value_core.specs.ToKey.{key_of};
 
 use crate::{Dict, Key, Name, Pair, Pairs, Seq, Text};
 use std::alloc::{AllocError, Global};
+use thiserror::Error;
 
 /// A value of the language. Its tree is finite; the keys of each map rise.
 #[derive(Drop)]
@@ -26,9 +27,11 @@ pub enum Value {
 pub type Values = Seq<Value>;
 
 /// Why a value is no key: it is of no kind of keys, or there was no memory for the copy.
-#[derive(Clone, Copy, Debug, PartialEq, Eq)]
+#[derive(Clone, Copy, Debug, PartialEq, Eq, Error)]
 pub enum KeyNo {
+    #[error("not a key")]
     NotKey,
+    #[error("out of memory")]
     Memory,
 }
 
