@@ -1,0 +1,14 @@
+//! Threads that append numbers to one list under a lock.
+#![tactic(auto)]
+
+mod list;
+mod pairs;
+mod runs;
+#[cfg(test)]
+mod tests;
+mod workers;
+
+pub use list::Numbers;
+pub use pairs::{Pair, append_by_four, append_by_two};
+pub use runs::{appended_by_four, appended_by_two};
+pub use workers::{Done, append, append_many};

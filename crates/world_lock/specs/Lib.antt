@@ -1,0 +1,6 @@
+pub mod Later
+pub mod Known
+pub mod Views
+pub mod Rule
+pub mod Steps
+pub mod Placed
