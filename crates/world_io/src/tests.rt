@@ -1,11 +1,12 @@
 use crate::reads::read_within;
 use crate::{
-    CallList, Failed, FileItem, FileList, FileNo, Files, HostErr, HostFiles, HostOut, MemFiles,
-    MemSink, Sink, write_all,
+    CallList, Failed, FileItem, FileList, FileNo, Files, HostErr, HostFiles, HostOut, HostStream,
+    MemFiles, MemSink, Sink, write_all,
 };
 use std::alloc::{AllocError, Global};
+use std::io::Print;
 use std::test::Fail;
-use std::{env, fs, io};
+use std::{env, fmt, fs, io};
 use value_core::Text;
 
 fn call_list(alloc: Global, numbers: &[u64]) -> Result<CallList, AllocError> {
@@ -156,4 +157,32 @@ fn a_read_fails_in_mid_stream(rt: HostRuntime) {
         read_within(rt.alloc(), &mut Broken(3), 2).err(),
         Some(FileNo::TooLong)
     );
+}
+
+/// A stream that takes so many bytes of a piece at most.
+#[derive(Drop)]
+struct Narrow(usize);
+
+impl Print for Narrow {
+    fn print<D: fmt::Display + Drop>(&self, _value: D) -> io::Result<()> {
+        Ok(())
+    }
+
+    fn println<D: fmt::Display + Drop>(&self, _value: D) -> io::Result<()> {
+        Ok(())
+    }
+
+    fn write_all(&self, _bytes: &[u8]) -> io::Result<()> {
+        Ok(())
+    }
+
+    fn write_some(&self, bytes: &[u8]) -> io::Result<usize> {
+        Ok(bytes.len().min(self.0))
+    }
+}
+
+#[test]
+fn a_short_write_is_told(rt: HostRuntime) {
+    assert_eq!(rt; HostStream::new(Narrow(2)).write(b"abc"), Ok(2));
+    assert_eq!(rt; HostStream::new(Narrow(0)).write(b"abc"), Err(Failed));
 }
