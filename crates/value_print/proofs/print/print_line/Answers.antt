@@ -1,4 +1,4 @@
-use Rattle.std.proofs.Common.{◌≡◌, ap, ◌∙◌, sym, ◌++◌, map}
+use Rattle.std.proofs.Common.{ap, ◌∙◌, sym, ◌++◌, map}
 use Rattle.std.specs.Prelude.{codes}
 use Rattle.value_print.specs.declared.style.Style.TheVariants.{Plain}
 use Rattle.value_print.specs.Texts.{value_text}

@@ -1,5 +1,4 @@
 use Rattle.std.proofs.Common.{◌≡◌, ◌++◌, drop}
-use Rattle.std.specs.Prelude.{codes}
 use Rattle.std.specs.List.{flat_map}
 use Rattle.value_print.specs.Texts.{escaped}
 use Rattle.value_print.proofs.print.push_quoted.Given as goal

@@ -1,0 +1,4 @@
+pub mod EntrySteps
+pub mod IntSteps
+pub mod OpPlaces
+pub mod Same

@@ -1,0 +1,116 @@
+ghost use Rattle.std.specs.Prelude.{◌≡◌, length, IsTrue, Ok};
+ghost use Rattle.value_core.specs.declared.value.Value.TheVariants.{Str};
+ghost use Rattle.value_print.specs.Texts.{str_text};
+ghost use Rattle.value_ops.specs.Apply.{Gives, apply_of, rule_of, limited};
+ghost use Rattle.value_ops.specs.Equality.{all_same, same_value};
+ghost use Rattle.value_ops.specs.Words.{takes_of};
+
+use crate::ints::{Arithmetic, Division, Extreme, Order, Sign};
+use crate::kinds::Kind;
+use crate::{OpFault, entries, ints, kinds, parts};
+use std::alloc::Global;
+use value_core::{Op, Value};
+use value_print::str_of;
+
+/// The value of the primitive for these arguments, or the fault that it has there. Of several faults the order is
+/// WrongType, DivideByZero, Overflow, Index and TooDeep; a result is at most 200 deep.
+pub fn apply(alloc: Global, op: Op, args: &[Value]) -> Result<Value, OpFault>
+    requires { IsTrue (takes_of op (length args.now)) }
+    ensures { Gives result (apply_of op args.now) }
+{
+    match rule(alloc, op, args) {
+        Ok(value) => limited(value),
+        Err(fault) => Err(fault),
+    }
+}
+
+fn limited(value: Value) -> Result<Value, OpFault>
+    ensures { Gives result (limited (Ok value)) }
+{
+    if value.depth() <= 200 {
+        Ok(value)
+    } else {
+        Err(OpFault::TooDeep)
+    }
+}
+
+// What the primitive gives, with no bound on depth.
+fn rule(alloc: Global, op: Op, args: &[Value]) -> Result<Value, OpFault>
+    ensures { Gives result (rule_of op args.now) }
+{
+    match op {
+        Op::Add => ints::sum(args),
+        Op::Multiply => ints::product(args),
+        Op::Subtract => ints::difference(args),
+        Op::Inc => ints::increase(args, 1),
+        Op::Dec => ints::increase(args, -1),
+        Op::Max => ints::chosen(Extreme::Greatest, args),
+        Op::Min => ints::chosen(Extreme::Least, args),
+        Op::Quot => ints::divided(Division::Quot, args),
+        Op::Rem => ints::divided(Division::Rem, args),
+        Op::Mod => ints::divided(Division::Mod, args),
+        Op::Below => ints::ordered(Order::Below, args),
+        Op::AtMost => ints::ordered(Order::AtMost, args),
+        Op::Above => ints::ordered(Order::Above, args),
+        Op::AtLeast => ints::ordered(Order::AtLeast, args),
+        Op::Same => Ok(Value::Bool(all_same(args))),
+        Op::NotSame => Ok(Value::Bool(!all_same(args))),
+        Op::Not => kinds::asked(Kind::False, args),
+        Op::IsZero => ints::signed(Sign::Zero, args),
+        Op::IsPositive => ints::signed(Sign::Positive, args),
+        Op::IsNegative => ints::signed(Sign::Negative, args),
+        Op::IsNil => kinds::asked(Kind::Nil, args),
+        Op::IsSome => kinds::asked(Kind::Some, args),
+        Op::IsInt => kinds::asked(Kind::Int, args),
+        Op::IsString => kinds::asked(Kind::String, args),
+        Op::IsKeyword => kinds::asked(Kind::Keyword, args),
+        Op::IsBoolean => kinds::asked(Kind::Boolean, args),
+        Op::IsVector => kinds::asked(Kind::Vector, args),
+        Op::IsMap => kinds::asked(Kind::Map, args),
+        Op::Vector => parts::vector(alloc, args),
+        Op::Count => parts::count(args),
+        Op::Get => parts::get(alloc, args),
+        Op::Nth => parts::nth(alloc, args),
+        Op::Conj => parts::conj(alloc, args),
+        Op::Assoc => entries::assoc(alloc, args),
+        Op::Dissoc => entries::dissoc(alloc, args),
+        Op::Contains => parts::contains(alloc, args),
+        Op::Keys => parts::keys(alloc, args),
+        Op::Vals => parts::vals(alloc, args),
+        Op::First => parts::first(alloc, args),
+        Op::Last => parts::last(alloc, args),
+        Op::Rest => parts::rest(alloc, args),
+        Op::IsEmpty => parts::empty(args),
+        Op::Subvec => parts::subvec(alloc, args),
+        Op::Into => parts::into(alloc, args),
+        Op::Str => string(alloc, args),
+    }
+}
+
+// Whether all are the first one.
+fn all_same(args: &[Value]) -> bool
+    ensures { result ≡ all_same args.now }
+{
+    let Some((first, others)) = args.split_first() else {
+        return true;
+    };
+    for other in others {
+        if !is_same(first, other) {
+            return false;
+        }
+    }
+    true
+}
+
+fn is_same(left: &Value, right: &Value) -> bool
+    ensures { result ≡ same_value left.now right.now }
+{
+    left.equal(right)
+}
+
+// `str`
+fn string(alloc: Global, args: &[Value]) -> Result<Value, OpFault>
+    ensures { Gives result (Ok (Str (str_text args.now))) }
+{
+    Ok(Value::Str(str_of(alloc, args)?))
+}
