@@ -1,6 +1,6 @@
 pub mod Answered
 pub mod Pieces
-pub mod Programs
+pub mod Loading
 pub mod Runs
 pub mod Finishes
 pub mod Said

@@ -2,7 +2,7 @@
 use Rattle.std.proofs.Common.{◌≡◌, ℕ, List, refl}
 use Rattle.std.specs.Prelude.{Some}
 use Rattle.chocola.specs.declared.load.LoadNo.{LoadNo}
-use Rattle.chocola.specs.declared.load.LoadNo.TheVariants.{Failed, Absent, Refused, Memory}
+use Rattle.chocola.specs.declared.load.LoadNo.TheVariants.{Failed, Absent, Refused, NotYet, Memory}
 use Rattle.chocola.specs.Words.{file_of}
 use Rattle.chocola.specs.Lines.{line_of, load_line}
 use Rattle.chocola.specs.Outcome.{load_status, load_detail}
@@ -11,4 +11,5 @@ pub line_of-load : (words : List (List ℕ)) (name : List ℕ) (error : LoadNo) 
 line_of-load words name Failed e = rw e refl
 line_of-load words name Absent e = rw e refl
 line_of-load words name (Refused kind at) e = refl
+line_of-load words name NotYet e = refl
 line_of-load words name Memory e = refl

@@ -7,18 +7,18 @@ use Rattle.world_io.specs.Held.{told, IsHeld}
 use Rattle.world_io.specs.Taken.{TookPrefix}
 use Rattle.world_io.specs.declared.files.FileItem.{FileItem}
 use Rattle.sexpr_reader.specs.declared.error.ReadKind.{ReadKind}
-use Rattle.sexpr_reader.specs.declared.error.ReadKind.TheVariants.{TooLong, NotYet}
+use Rattle.sexpr_reader.specs.declared.error.ReadKind.TheVariants.{BadByte, Unclosed, Unmatched, BadNumber, BadString, TooNested, TooLong}
 use Rattle.serial_model.specs.Eval.{Program}
 use Rattle.serial_model.specs.State.{State}
 use Rattle.serial_model.specs.Replay.{replay, IsOver, status}
 use Rattle.chocola.specs.declared.outcome.Outcome.{Outcome}
 use Rattle.chocola.specs.declared.outcome.Detail.{Detail}
 use Rattle.chocola.specs.declared.outcome.Detail.TheVariants.{Nothing, Refused}
-use Rattle.chocola.specs.declared.outcome.Part.TheVariants.{Source}
+use Rattle.chocola.specs.declared.outcome.Part.TheVariants.{Source, Scope}
 use Rattle.chocola.specs.declared.load.LoadNo.{LoadNo}
 use Rattle.chocola.specs.declared.load.LoadNo.TheVariants as load
 use Rattle.chocola.specs.Words.{file_of}
-use Rattle.chocola.specs.Program.{IsProgramOf}
+use Rattle.chocola.specs.Program.{IsProgramOf, IsNotYet}
 use Rattle.chocola.specs.Load.{IsDue}
 use Rattle.chocola.specs.Run.{setup_of}
 
@@ -48,12 +48,30 @@ pub record IsGiven (words : List (List ℕ)) (held : Option (List FileItem)) (by
 
 -- the number of a refusal
 abbrev pub kind_number : ReadKind → ℕ
+kind_number BadByte = 1
+kind_number Unclosed = 2
+kind_number Unmatched = 3
+kind_number BadNumber = 4
+kind_number BadString = 5
+kind_number TooNested = 6
 kind_number TooLong = 7
-kind_number NotYet = 8
 
 -- the detail of a refused source
 abbrev pub refused_as : ReadKind → Spot → Detail
 refused_as kind at = Refused Source (kind_number kind) at.line at.column
+
+-- the detail of a source with a form that is not built yet
+abbrev pub not_yet : Detail
+not_yet = Refused Scope 7 1 1
+
+-- some form of the source of the words' file is not built yet
+pub record IsNotYetRun (words : List (List ℕ)) (held : Option (List FileItem)) (detail : Detail) : Type 0 where
+  pub name : List ℕ
+  pub bytes : List ℕ
+  pub named : file_of words ≡ Some name
+  pub read : IsHeld (told held name) bytes
+  pub waits : IsNotYet bytes
+  pub is : detail ≡ not_yet
 
 -- the source of the words' file is refused, with the kind and the place in the detail
 pub record IsRefusedRun (words : List (List ℕ)) (held : Option (List FileItem)) (detail : Detail) : Type 0 where
@@ -100,10 +118,12 @@ abbrev pub load_status : LoadNo → ℕ
 load_status load.Failed = 3
 load_status load.Absent = 3
 load_status (load.Refused kind at) = 4
+load_status load.NotYet = 4
 load_status load.Memory = 6
 
 abbrev pub load_detail : LoadNo → Detail
 load_detail load.Failed = Nothing
 load_detail load.Absent = Nothing
 load_detail (load.Refused kind at) = refused_as kind at
+load_detail load.NotYet = not_yet
 load_detail load.Memory = Nothing

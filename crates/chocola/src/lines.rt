@@ -1,11 +1,9 @@
 ghost use Rattle.std.specs.Prelude.{◌≡◌, ◌≤◌, flat_map};
 ghost use Rattle.world_io.specs.Taken.{TookPrefix, Said};
-ghost use Rattle.chocola.specs.Lines.{usage_line, cannot_read_line, memory_line, source_line, kind_name};
-ghost use Rattle.chocola.specs.Outcome.{kind_number};
+ghost use Rattle.chocola.specs.Lines.{usage_line, cannot_read_line, memory_line, refused_line, source_line, kind_name};
 
+use crate::outcome::{Detail, Part};
 use itoa::Buffer;
-use sexpr_reader::ReadKind;
-use value_core::Place;
 use world_io::{Sink, write_all};
 
 /// Says that the words are refused.
@@ -35,24 +33,39 @@ pub fn say_not_read<E: Sink>(err: &mut E, name: &[u8])
     say(err, &[b"cannot read ", name, b"\n"]);
 }
 
-/// Says that the source is refused at that place.
-pub fn say_refused<E: Sink>(err: &mut E, kind: ReadKind, at: Place)
-    ensures prefix { TookPrefix (E.taken err.old) (E.taken err.new) (source_line (kind_number kind) at.line at.column) }
-    ensures said { Said (E.taken err.old) (E.taken err.new) (E.faults err.old) (E.faults err.new)
-        (source_line (kind_number kind) at.line at.column) }
+/// Says what is refused, and nothing of another detail.
+pub fn say_refused<E: Sink>(err: &mut E, detail: Detail)
+    ensures prefix { TookPrefix (E.taken err.old) (E.taken err.new) (refused_line detail) }
+    ensures said { Said (E.taken err.old) (E.taken err.new) (E.faults err.old) (E.faults err.new) (refused_line detail) }
     ensures later { E.faults err.old ≤ E.faults err.new }
 {
-    let mut line = Buffer::new();
-    let mut column = Buffer::new();
+    match detail {
+        Detail::Nothing => say(err, &[]),
+        Detail::Refused {
+            part,
+            kind,
+            line,
+            column,
+        } => say_source(err, part, kind, line, column),
+    }
+}
+
+fn say_source<E: Sink>(err: &mut E, part: Part, kind: u8, line: u64, column: u64)
+    ensures prefix { TookPrefix (E.taken err.old) (E.taken err.new) (source_line part kind line column) }
+    ensures said { Said (E.taken err.old) (E.taken err.new) (E.faults err.old) (E.faults err.new) (source_line part kind line column) }
+    ensures later { E.faults err.old ≤ E.faults err.new }
+{
+    let mut line_digits = Buffer::new();
+    let mut column_digits = Buffer::new();
     say(
         err,
         &[
             b"source ",
-            line.format(at.line()).as_bytes(),
+            line_digits.format(line).as_bytes(),
             b":",
-            column.format(at.column()).as_bytes(),
+            column_digits.format(column).as_bytes(),
             b" ",
-            kind_name(kind).as_bytes(),
+            kind_name(part, kind).as_bytes(),
             b"\n",
         ],
     );
@@ -72,11 +85,33 @@ fn say<E: Sink>(err: &mut E, pieces: &[&[u8]])
     }
 }
 
-fn kind_name(kind: ReadKind) -> &'static str
-    ensures { result.now ≡ kind_name (kind_number kind) }
+/// The name of the refusal with that number.
+fn kind_name(part: Part, kind: u8) -> &'static str
+    ensures { result.now ≡ kind_name part kind }
+{
+    match part {
+        Part::Source => text_kind_name(kind),
+        Part::Scope => scope_kind_name(kind),
+    }
+}
+
+fn text_kind_name(kind: u8) -> &'static str
+    ensures { result.now ≡ kind_name Part.Source kind }
 {
     match kind {
-        ReadKind::TooLong => "TooLong",
-        ReadKind::NotYet => "NotYet",
+        1 => "BadByte",
+        2 => "Unclosed",
+        3 => "Unmatched",
+        4 => "BadNumber",
+        5 => "BadString",
+        6 => "TooNested",
+        7 => "TooLong",
+        _ => "",
     }
+}
+
+fn scope_kind_name(kind: u8) -> &'static str
+    ensures { result.now ≡ kind_name Part.Scope kind }
+{
+    if kind == 7 { "NotYet" } else { "" }
 }

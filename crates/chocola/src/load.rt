@@ -1,8 +1,9 @@
-ghost use Rattle.std.specs.Prelude.{◌≡◌, ◌≤◌, ℤ, List, Option, IsSome, IfOk};
+ghost use Rattle.std.specs.Prelude.{◌≡◌, ◌≤◌, ℤ, List, Option, IfOk};
+ghost use Rattle.std.specs.Option.{option_map};
 ghost use Rattle.sexpr_reader.specs.Cursor.{start};
 ghost use Rattle.world_io.specs.Held.{told};
 ghost use Rattle.chocola.specs.Program.{printed, program_of};
-ghost use Rattle.chocola.specs.Load.{Loads, load_error};
+ghost use Rattle.chocola.specs.Load.{Loads, Gives, load_error};
 
 use sexpr_reader::{Form, FormKind, ReadKind, ReadNo, SOURCE_LIMIT, read};
 use std::alloc::{AllocError, Global};
@@ -22,6 +23,9 @@ pub enum LoadNo {
     /// The source is refused, with the kind of the refusal and its place.
     #[error("the source is refused")]
     Refused { kind: ReadKind, at: Place },
+    /// A form of the source is not built yet.
+    #[error("not built yet")]
+    NotYet,
     /// There is no memory.
     #[error("out of memory")]
     Memory,
@@ -43,8 +47,19 @@ pub fn load<F: Files>(alloc: Global, files: &mut F, name: &Text) -> Result<Vec<i
         Err(FileNo::Memory) => return Err(LoadNo::Memory),
     };
     match read(alloc, bytes.as_slice()) {
-        Ok(forms) => integers(alloc, forms.items()).map_err(|_| LoadNo::Memory),
+        Ok(forms) => program(alloc, forms.items()),
         Err(error) => Err(load_error(error)),
+    }
+}
+
+/// The program of the forms.
+fn program(alloc: Global, forms: &[Form]) -> Result<Vec<i64>, LoadNo>
+    ensures { Gives (λ program. program.items) (program_of forms.now) result }
+{
+    match integers(alloc, forms) {
+        Ok(Some(program)) => Ok(program),
+        Ok(None) => Err(LoadNo::NotYet),
+        Err(_) => Err(LoadNo::Memory),
     }
 }
 
@@ -66,19 +81,18 @@ fn too_long() -> LoadNo
     }
 }
 
-/// The integers that the forms print.
-fn integers(alloc: Global, forms: &[Form]) -> Result<Vec<i64>, AllocError>
-    requires { IsSome (program_of forms.now) }
-    ensures { IfOk result (λ program. program_of forms.now ≡ Some program.items) }
+/// The integers that the forms print, where each form prints one.
+fn integers(alloc: Global, forms: &[Form]) -> Result<Option<Vec<i64>>, AllocError>
+    ensures { IfOk result (λ found. program_of forms.now ≡ option_map (λ program. program.items) found) }
 {
     let mut program = Vec::new(alloc);
     for form in forms {
         match printed(form) {
             Some(n) => program.push(n)?,
-            None => unreachable!(),
+            None => return Ok(None),
         }
     }
-    Ok(program)
+    Ok(Some(program))
 }
 
 /// The integer of a form `(println INT)`.
@@ -88,11 +102,13 @@ fn printed(form: &Form) -> Option<i64>
     let FormKind::List(parts) = &form.kind else {
         return None;
     };
-    let [_, number] = parts.items() else {
+    let [name, number] = parts.items() else {
         return None;
     };
-    match number.kind {
-        FormKind::Int(n) => Some(n),
+    match (&name.kind, &number.kind) {
+        (FormKind::Sym(word), FormKind::Int(n)) if word.items() == b"println".as_slice() => Some(
+            *n,
+        ),
         _ => None,
     }
 }

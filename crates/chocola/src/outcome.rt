@@ -34,11 +34,14 @@ pub enum Detail {
 /// A part of what the program reads.
 #[derive(Clone, Copy, Debug, PartialEq, Eq)]
 pub enum Part {
+    /// The text of the source.
     Source,
+    /// What the source's forms mean.
+    Scope,
 }
 
 impl Detail {
-    ghost use Rattle.chocola.specs.Outcome.{refused_as};
+    ghost use Rattle.chocola.specs.Outcome.{refused_as, not_yet};
 
     /// The source is refused with that kind at that place.
     pub fn refused(kind: ReadKind, at: Place) -> Self
@@ -51,14 +54,31 @@ impl Detail {
             column: u64::from(at.column()),
         }
     }
+
+    /// A form of the source is not built yet.
+    pub fn not_yet() -> Self
+        ensures { result ≡ not_yet }
+    {
+        Detail::Refused {
+            part: Part::Scope,
+            kind: 7,
+            line: 1,
+            column: 1,
+        }
+    }
 }
 
 fn kind_number(kind: ReadKind) -> u8
     ensures { result ≡ kind_number kind }
 {
     match kind {
+        ReadKind::BadByte => 1,
+        ReadKind::Unclosed => 2,
+        ReadKind::Unmatched => 3,
+        ReadKind::BadNumber => 4,
+        ReadKind::BadString => 5,
+        ReadKind::TooNested => 6,
         ReadKind::TooLong => 7,
-        ReadKind::NotYet => 8,
     }
 }
 

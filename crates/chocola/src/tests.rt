@@ -71,43 +71,76 @@ fn runs(rt: HostRuntime) -> Result<(), Fail> {
 }
 
 #[test]
-fn refuses(rt: HostRuntime) -> Result<(), Fail> {
-    let source: &[u8] = b"(println 9223372036854775808)";
-    let refused = Detail::Refused {
-        part: Part::Source,
-        kind: 8,
-        line: 1,
-        column: 1,
-    };
-    let rows: [(&[&str], u8, &str, Detail); 7] = [
-        (&["run", "a.clj"], 4, "source 1:1 NotYet\n", refused),
-        (&["run"], 2, "chocola: bad command line\n", Detail::Nothing),
-        (&[], 2, "chocola: bad command line\n", Detail::Nothing),
-        (
-            &["run", ""],
-            2,
-            "chocola: bad command line\n",
-            Detail::Nothing,
-        ),
-        (
-            &["run", "-a"],
-            2,
-            "chocola: bad command line\n",
-            Detail::Nothing,
-        ),
-        (
-            &["run", "a.clj", "b"],
-            2,
-            "chocola: bad command line\n",
-            Detail::Nothing,
-        ),
-        (&["run", "b.clj"], 3, "cannot read b.clj\n", Detail::Nothing),
+fn refuses_words_and_files(rt: HostRuntime) -> Result<(), Fail> {
+    let rows: [(&[&str], u8, &str); 6] = [
+        (&["run"], 2, "chocola: bad command line\n"),
+        (&[], 2, "chocola: bad command line\n"),
+        (&["run", ""], 2, "chocola: bad command line\n"),
+        (&["run", "-a"], 2, "chocola: bad command line\n"),
+        (&["run", "a.clj", "b"], 2, "chocola: bad command line\n"),
+        (&["run", "b.clj"], 3, "cannot read b.clj\n"),
     ];
-    for (words, status, said, detail) in rows {
-        let call = call_program(rt.alloc(), words, source, 100, &[])?;
+    for (words, status, said) in rows {
+        let call = call_program(rt.alloc(), words, b"(println 1)", 100, &[])?;
         assert_eq!(rt; call.outcome.status, status);
         assert_eq!(rt; call.outcome.end, None);
-        assert_eq!(rt; call.outcome.detail, detail);
+        assert_eq!(rt; call.outcome.detail, Detail::Nothing);
+        assert!(rt; call.out.taken().is_empty());
+        assert_eq!(rt; call.err.taken(), said.as_bytes());
+        assert!(rt; call.outcome.history.entries().is_empty());
+    }
+    Ok(())
+}
+
+#[test]
+fn refuses_sources(rt: HostRuntime) -> Result<(), Fail> {
+    let rows: [(&[u8], Part, u8, u64, &str); 5] = [
+        (
+            b"(println 9223372036854775808)",
+            Part::Source,
+            4,
+            10,
+            "source 1:10 BadNumber\n",
+        ),
+        (
+            b"(println (+ 1 2)",
+            Part::Source,
+            2,
+            1,
+            "source 1:1 Unclosed\n",
+        ),
+        (
+            b"(println 1) 07",
+            Part::Source,
+            4,
+            13,
+            "source 1:13 BadNumber\n",
+        ),
+        (
+            b"(println \xff)",
+            Part::Source,
+            1,
+            10,
+            "source 1:10 BadByte\n",
+        ),
+        (
+            b"(println (+ 1 2))",
+            Part::Scope,
+            7,
+            1,
+            "source 1:1 NotYet\n",
+        ),
+    ];
+    for (source, part, kind, column, said) in rows {
+        let call = call_program(rt.alloc(), &["run", "a.clj"], source, 100, &[])?;
+        let refused = Detail::Refused {
+            part,
+            kind,
+            line: 1,
+            column,
+        };
+        assert_eq!(rt; call.outcome.status, 4);
+        assert_eq!(rt; call.outcome.detail, refused);
         assert!(rt; call.out.taken().is_empty());
         assert_eq!(rt; call.err.taken(), said.as_bytes());
         assert!(rt; call.outcome.history.entries().is_empty());

@@ -3,23 +3,22 @@ ghost use Rattle.std.specs.String.{string_bytes};
 ghost use Rattle.serial_model.specs.Eval.{Program};
 ghost use Rattle.sexpr_reader.specs.declared.error.ReadKind.{ReadKind};
 ghost use Rattle.sexpr_reader.specs.Grammar.{IsRefused};
-ghost use Rattle.sexpr_reader.specs.Cursor.{start};
+ghost use Rattle.value_core.specs.Place.{Spot};
 ghost use Rattle.world_io.specs.Counts.{Rose};
 ghost use Rattle.world_io.specs.Taken.{TookPrefix, Said};
 ghost use Rattle.chocola.specs.Words.{file_of};
 ghost use Rattle.chocola.specs.Lines.{cannot_read_line, line_of, load_line, memory_line, refused_line};
-ghost use Rattle.chocola.specs.Program.{IsProgramOf};
+ghost use Rattle.chocola.specs.Program.{IsProgramOf, IsNotYet};
 ghost use Rattle.std.specs.Io.KnownBytes.{append_known};
-ghost use Rattle.chocola.specs.Outcome.{IsStatus, IsEnded, IsWritten, load_status, load_detail, IsWithoutRun, IsMissing, IsGiven, IsRefusedRun, Finished, IsRun, IsIdle, refused_as};
+ghost use Rattle.chocola.specs.Outcome.{IsStatus, IsEnded, IsWritten, load_status, load_detail, IsWithoutRun, IsMissing, IsGiven, IsRefusedRun, IsNotYetRun, Finished, IsRun, IsIdle, refused_as, not_yet};
 
 use crate::lines::{say_memory, say_not_read, say_refused, say_usage};
 use crate::load::{LoadNo, load};
 use crate::outcome::{Detail, Outcome};
 use crate::run::{Ran, run};
 use crate::words::file_word;
-use sexpr_reader::ReadKind;
 use std::alloc::Global;
-use value_core::{Place, Text};
+use value_core::Text;
 use world_io::{Files, Sink, write_all};
 
 /// Does what the words of a command line say, and answers what became of it.
@@ -48,10 +47,14 @@ pub fn chocola<F: Files, K: Sink + Send, E: Sink>(
     ensures not_read { result.status ≡ 3 → Rose (F.read_faults files.old) (F.read_faults files.new)
         ⊎ IsMissing (map string_bytes words.now) (F.held files.old) }
     ensures missing { IsMissing (map string_bytes words.now) (F.held files.old) → (result.status ≡ 3) ⊎ (result.status ≡ 6) }
-    ensures refused { result.status ≡ 4 → IsRefusedRun (map string_bytes words.now) (F.held files.old) result.detail }
-    ensures must_refuse { (bytes : List ℕ) (kind : ReadKind) → IsGiven (map string_bytes words.now) (F.held files.old) bytes
-        → IsRefused bytes kind → (Rose (F.read_faults files.old) (F.read_faults files.new) → ⊥)
-        → ((result.status ≡ 4) × (result.detail ≡ refused_as kind start)) ⊎ (result.status ≡ 6) }
+    ensures refused { result.status ≡ 4 → IsRefusedRun (map string_bytes words.now) (F.held files.old) result.detail
+        ⊎ IsNotYetRun (map string_bytes words.now) (F.held files.old) result.detail }
+    ensures must_refuse { (bytes : List ℕ) (kind : ReadKind) (at : Spot) → IsGiven (map string_bytes words.now) (F.held files.old) bytes
+        → IsRefused bytes kind at → (Rose (F.read_faults files.old) (F.read_faults files.new) → ⊥)
+        → ((result.status ≡ 4) × (result.detail ≡ refused_as kind at)) ⊎ (result.status ≡ 6) }
+    ensures must_wait { (bytes : List ℕ) → IsGiven (map string_bytes words.now) (F.held files.old) bytes
+        → IsNotYet bytes → (Rose (F.read_faults files.old) (F.read_faults files.new) → ⊥)
+        → ((result.status ≡ 4) × (result.detail ≡ not_yet)) ⊎ (result.status ≡ 6) }
     ensures not_written { result.status ≡ 7 → Rose (K.faults out.old) (K.faults out.new) ⊎ Rose (E.faults err.old) (E.faults err.new) }
 
     // What else an outcome shows.
@@ -147,7 +150,8 @@ fn without_program<E: Sink>(alloc: Global, error: LoadNo, name: &[u8], err: &mut
     match error {
         LoadNo::Failed => not_read(alloc, name, err),
         LoadNo::Absent => not_read(alloc, name, err),
-        LoadNo::Refused { kind, at } => refuse(alloc, kind, at, err),
+        LoadNo::Refused { kind, at } => refuse(alloc, Detail::refused(kind, at), err),
+        LoadNo::NotYet => refuse(alloc, Detail::not_yet(), err),
         LoadNo::Memory => out_of_memory(alloc, err),
     }
 }
@@ -166,18 +170,18 @@ fn not_read<E: Sink>(alloc: Global, name: &[u8], err: &mut E) -> Outcome
     Outcome::without_run(alloc, 3, Detail::Nothing)
 }
 
-/// Refuses the source.
-fn refuse<E: Sink>(alloc: Global, kind: ReadKind, at: Place, err: &mut E) -> Outcome
+/// Refuses what the detail says.
+fn refuse<E: Sink>(alloc: Global, detail: Detail, err: &mut E) -> Outcome
     ensures status { result.status ≡ 4 }
-    ensures detail { result.detail ≡ refused_as kind at }
+    ensures detail { result.detail ≡ detail }
     ensures history { result.history.items ≡ [] }
     ensures end { result.end ≡ None }
-    ensures said { Said (E.taken err.old) (E.taken err.new) (E.faults err.old) (E.faults err.new) (refused_line (refused_as kind at)) }
-    ensures said_at_most { TookPrefix (E.taken err.old) (E.taken err.new) (refused_line (refused_as kind at)) }
+    ensures said { Said (E.taken err.old) (E.taken err.new) (E.faults err.old) (E.faults err.new) (refused_line detail) }
+    ensures said_at_most { TookPrefix (E.taken err.old) (E.taken err.new) (refused_line detail) }
     ensures later { E.faults err.old ≤ E.faults err.new }
 {
-    say_refused(err, kind, at);
-    Outcome::without_run(alloc, 4, Detail::refused(kind, at))
+    say_refused(err, detail);
+    Outcome::without_run(alloc, 4, detail)
 }
 
 fn out_of_memory<E: Sink>(alloc: Global, err: &mut E) -> Outcome

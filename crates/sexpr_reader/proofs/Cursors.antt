@@ -6,7 +6,7 @@ use Rattle.std.proofs.Math.Seq.{take-append_seam}
 use Rattle.std.proofs.lemmas.List.Folds.{list_all-append}
 use Rattle.value_core.specs.Place.{Spot}
 use Rattle.sexpr_reader.specs.Cursor.{Cursor, next_spot, after, Over, Spans}
-use Rattle.sexpr_reader.specs.Steps.{begins}
+use Rattle.sexpr_reader.specs.Lead.{begins}
 
 pub after-append : (s : Spot) (t u : List ℕ) → after s (t ++ u) ≡ after (after s t) u
 unfolding after

@@ -1,5 +1,6 @@
 -- The bytes of an integer.
 use Rattle.std.proofs.Common.{◌≡◌, ℕ, ℤ, ◌<◌, Bool, true, false, ◌==◌, cond, List, [], ◌∷◌, drop, refl, arith}
+use Rattle.std.specs.Prelude.{nat_le, ◌&&◌, ◌||◌}
 use Rattle.std.specs.List.{list_all}
 use Rattle.std.proofs.lemmas.Bool.{and_parts}
 use Rattle.std.specs.Str.{IsAscii, IsUtf8}
@@ -10,8 +11,10 @@ use Rattle.std.proofs.lemmas.Str.{IsUtf8-from_ascii}
 use Rattle.std.proofs.lemmas.Str.Ascii.{IsAscii-nil, IsAscii-cons}
 use Rattle.std.proofs.lemmas.Str.Parse.{digit_from_value}
 use Rattle.sexpr_reader.specs.Integer.{IsInteger}
-use Rattle.sexpr_reader.specs.Steps.{is_integer_byte}
-use Rattle.sexpr_reader.specs.WhiteSpace.{is_white_space}
+
+-- a digit, + or -
+abbrev is_integer_byte : ℕ → Bool
+is_integer_byte b = (nat_le 48 b && nat_le b 57) || (b == 43) || (b == 45)
 
 -- a digit is a byte of an integer
 digit_passes : (b : ℕ) → digit_value b < 10 → is_integer_byte b ≡ true
@@ -34,7 +37,7 @@ signed_pass b bs true plus m p h = rw (minus_passes b m) (digits_pass bs h)
 signed_pass b bs false true m p h = rw (plus_passes b p) (digits_pass bs h)
 signed_pass b bs false false m p h = rw (digit_passes b h.0) (digits_pass bs h.1)
 
-pub IsInteger-bytes : (word : List ℕ) (n : ℤ) → IsInteger word n → list_all is_integer_byte word ≡ true
+IsInteger-bytes : (word : List ℕ) (n : ℤ) → IsInteger word n → list_all is_integer_byte word ≡ true
 IsInteger-bytes [] n i = refl
 IsInteger-bytes (b ∷ bs) n i = signed_pass b bs (b == 45) (b == 43) refl refl i.digits.1
 
@@ -54,10 +57,3 @@ ascii (b ∷ bs) h =
 -- an integer is a text
 pub IsInteger-utf8 : (word : List ℕ) (n : ℤ) → IsInteger word n → IsUtf8 word
 IsInteger-utf8 word n i = IsUtf8-from_ascii word (ascii word (IsInteger-bytes word n i))
-
--- no byte is of an integer and white space
-pub apart : (b : ℕ) → is_integer_byte b ≡ true → is_white_space b ≡ false
-apart b h = grind (arith, nat_tests)
-
-pub apart_back : (b : ℕ) → is_white_space b ≡ true → is_integer_byte b ≡ false
-apart_back b h = grind (arith, nat_tests)

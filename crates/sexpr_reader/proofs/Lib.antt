@@ -1,5 +1,11 @@
-pub mod Calls
 pub mod Cursors
 pub mod Integers
+pub mod Never
+pub mod Leads
+pub mod Lexing
+pub mod Refusals
 pub mod Runs
+pub mod Same
+pub mod Spaces
+pub mod Unique
 pub mod Sources

@@ -3,7 +3,8 @@ use Rattle.std.proofs.Common.{◌≡◌, ℕ, Bool, true, false, List, [], ◌�
 use Rattle.std.specs.List.{list_all}
 use Rattle.std.proofs.lemmas.Bool.{and_parts}
 use Rattle.sexpr_reader.specs.Cursor.{Cursor, Over, Spans}
-use Rattle.sexpr_reader.specs.Steps.{begins, IsRun}
+use Rattle.sexpr_reader.specs.Lead.{begins}
+use Rattle.sexpr_reader.specs.Runs.{IsRun}
 use Rattle.sexpr_reader.proofs.Cursors.{Over-same}
 
 -- two texts that pass, each before a byte that doesn't or at the end, are one

@@ -1,40 +1,53 @@
 -- The grammar of a source, and the refusal of bytes that no forms spell.
-use Rattle.std.specs.Prelude.{◌≡◌, ℕ, ◌<◌, ◌≤◌, List, [], ◌∷◌, length}
-use Rattle.sexpr_reader.specs.declared.call.Call.{Call}
+use Rattle.std.specs.Prelude.{◌≡◌, ◌≢◌, ℕ, ◌<◌, ◌≤◌, List, [], ◌∷◌, length, take}
+use Rattle.std.specs.Str.{IsUtf8}
+use Rattle.std.specs.Str.Lossy.{utf8_valid_len}
+use Rattle.value_core.specs.Place.{Spot}
 use Rattle.sexpr_reader.specs.declared.form.Form.{Form}
 use Rattle.sexpr_reader.specs.declared.error.ReadKind.{ReadKind}
-use Rattle.sexpr_reader.specs.declared.error.ReadKind.TheVariants.{TooLong, NotYet}
+use Rattle.sexpr_reader.specs.declared.error.ReadKind.TheVariants.{BadByte, Unclosed, Unmatched, TooNested, TooLong}
 use Rattle.sexpr_reader.specs.declared.error.ReadNo.{ReadNo}
 use Rattle.sexpr_reader.specs.declared.error.ReadNo.TheVariants.{Refused, Memory}
+use Rattle.sexpr_reader.specs.declared.group.Group.{Group}
+use Rattle.sexpr_reader.specs.declared.group.Opened.{Opened}
+use Rattle.sexpr_reader.specs.declared.nest.TheConstants.{NEST_LIMIT}
 use Rattle.sexpr_reader.specs.declared.source.TheConstants.{SOURCE_LIMIT}
-use Rattle.sexpr_reader.specs.Cursor.{Cursor, start}
-use Rattle.sexpr_reader.specs.WhiteSpace.{Blank}
-use Rattle.sexpr_reader.specs.Call.{IsCall, call_form}
+use Rattle.sexpr_reader.specs.declared.token.Token.{Token}
+use Rattle.sexpr_reader.specs.declared.token.TokenKind.TheVariants.{Open, Close}
+use Rattle.sexpr_reader.specs.Cursor.{Cursor, start, after}
+use Rattle.sexpr_reader.specs.Forms.{Spells}
+use Rattle.sexpr_reader.specs.Opens.{Leaves}
+use Rattle.sexpr_reader.specs.Tokens.{IsToken, IsEnd, IsNoToken}
 
--- one form, with white space before it, leads from one cursor to the other
-pub record IsForm (c : Cursor) (form : Form) (d : Cursor) : Type 0 where
-  pub call : Call
-  pub begin : Cursor
-  pub before : Blank c begin
-  pub tokens : IsCall begin call d
-  pub is : form ≡ call_form call
+abbrev pub source : List ℕ → Cursor
+source bytes = record { at = start; rest = bytes }
 
--- the forms that stand from a cursor to the end; white space may follow the last
-unfoldable pub Spells : Cursor → List Form → Type 0
-Spells c [] = (d : Cursor) × Blank c d × (d.rest ≡ [])
-Spells c (form ∷ forms) = (d : Cursor) × IsForm c form d × Spells d forms
-
--- the bytes are a source within the limit, and spell the forms
+-- the bytes are a text within the limit, and spell the forms
 pub record IsSource (bytes : List ℕ) (forms : List Form) : Type 0 where
   pub within : length bytes ≤ SOURCE_LIMIT
-  pub spelled : Spells (record { at = start; rest = bytes }) forms
+  pub text : IsUtf8 bytes
+  pub spelled : Spells (source bytes) forms
 
--- a refusal of this kind is due
-abbrev pub IsRefused : List ℕ → ReadKind → Type 0
-IsRefused bytes TooLong = SOURCE_LIMIT < length bytes
-IsRefused bytes NotYet = (length bytes ≤ SOURCE_LIMIT) × ((forms : List Form) → Spells (record { at = start; rest = bytes }) forms → ⊥)
+-- the innermost of what is open is not of that group, or nothing is open
+abbrev pub IsOther : List Opened → Group → Type 0
+IsOther [] g = Unit {0}
+IsOther (o ∷ os) g = o.group ≢ g
 
--- an error is due; want of memory is free
-abbrev pub IsRefusal : List ℕ → ReadNo → Type 0
-IsRefusal bytes Memory = Unit {0}
-IsRefusal bytes (Refused kind at) = IsRefused bytes kind × (at ≡ start)
+-- why the tokens of a source stop, behind some that leave this open, and where
+pub data Stops : Cursor → List Opened → ReadKind → Spot → Type 0 where
+  no_token : {c : Cursor} {os : List Opened} {kind : ReadKind} {at : Spot} → IsNoToken c kind at → Stops c os kind at
+  unmatched : {c d : Cursor} {os : List Opened} (t : Token) (g : Group) → IsToken c t d → t.kind ≡ Close g → IsOther os g → Stops c os Unmatched t.at
+  too_nested : {c d : Cursor} {os : List Opened} (t : Token) (g : Group) → IsToken c t d → t.kind ≡ Open g → NEST_LIMIT ≤ length os → Stops c os TooNested t.at
+  unclosed : {c : Cursor} {os : List Opened} (o : Opened) → IsEnd c → Stops c (o ∷ os) Unclosed o.at
+
+-- the first check that fails
+pub data IsRefused : List ℕ → ReadKind → Spot → Type 0 where
+  too_long : {bytes : List ℕ} → SOURCE_LIMIT < length bytes → IsRefused bytes TooLong start
+  no_text : {bytes : List ℕ} → length bytes ≤ SOURCE_LIMIT → ¬ IsUtf8 bytes → IsRefused bytes BadByte (after start (take (utf8_valid_len bytes) bytes))
+  token : {bytes : List ℕ} {kind : ReadKind} {at : Spot} (os : List Opened) (c : Cursor) → length bytes ≤ SOURCE_LIMIT → IsUtf8 bytes
+      → Leaves (source bytes) os c → Stops c os kind at → IsRefused bytes kind at
+
+-- the error is a refusal that is due for such a cause; want of memory is free
+abbrev pub RefusedAs : (ReadKind → Spot → Type 0) → ReadNo → Type 0
+RefusedAs cause Memory = Unit {0}
+RefusedAs cause (Refused kind at) = cause kind at

@@ -1,6 +1,15 @@
-pub mod Call
+pub mod Bytes
 pub mod Cursor
+pub mod Forms
+pub mod Gap
 pub mod Grammar
 pub mod Integer
+pub mod Lead
+pub mod Names
+pub mod Nest
+pub mod Opens
+pub mod Runs
+pub mod Spelling
 pub mod Steps
-pub mod WhiteSpace
+pub mod Strings
+pub mod Tokens

@@ -1,25 +1,37 @@
 -- What the private steps of the reader give.
-use Rattle.std.specs.Prelude.{◌≡◌, ℕ, Bool, false, ◌==◌, ◌||◌, ◌&&◌, nat_le, List, [], ◌∷◌}
-use Rattle.sexpr_reader.specs.declared.reader.Class.{Class}
-use Rattle.sexpr_reader.specs.declared.reader.Class.TheVariants.{WhiteSpace, Integer}
-use Rattle.sexpr_reader.specs.Cursor.{Cursor, Spans}
-use Rattle.sexpr_reader.specs.WhiteSpace.{is_white_space}
+use Rattle.std.specs.Prelude.{ℕ, Option, None, Some, Result, Ok, Err, [], ◌∷◌}
+use Rattle.value_core.specs.Place.{Spot}
+use Rattle.sexpr_reader.specs.declared.error.ReadNo.{ReadNo}
+use Rattle.sexpr_reader.specs.declared.lead.Class.{Class}
+use Rattle.sexpr_reader.specs.declared.lead.Class.TheVariants as class
+use Rattle.sexpr_reader.specs.declared.lead.Lead.{Lead}
+use Rattle.sexpr_reader.specs.declared.lead.Lead.TheVariants.{WhiteSpace, Comment}
+use Rattle.sexpr_reader.specs.declared.token.Token.{Token}
+use Rattle.sexpr_reader.specs.declared.token.TokenKind.{TokenKind}
+use Rattle.sexpr_reader.specs.Cursor.{Cursor, Over}
+use Rattle.sexpr_reader.specs.Grammar.{RefusedAs}
+use Rattle.sexpr_reader.specs.Strings.{Written, StringStops}
+use Rattle.sexpr_reader.specs.Tokens.{Begins, Fails, IsToken, IsEnd, IsNoToken}
 
--- a digit, + or -
-abbrev pub is_integer_byte : ℕ → Bool
-is_integer_byte b = (nat_le 48 b && nat_le b 57) || (b == 43) || (b == 45)
+-- the bytes of what separates, by what begins it
+abbrev pub gap_class : Lead → Option Class
+gap_class WhiteSpace = Some class.WhiteSpace
+gap_class Comment = Some class.Line
+gap_class _ = None
 
--- the class has the byte
-abbrev pub has : Class → ℕ → Bool
-has WhiteSpace b = is_white_space b
-has Integer b = is_integer_byte b
+-- a byte of a string, or its closing quote
+abbrev pub IsPiece : Spot → Cursor → Result (Option ℕ) ReadNo → Cursor → Type 0
+IsPiece quote c (Ok (Some b)) d = Written c b d
+IsPiece quote c (Ok None) d = Over (34 ∷ []) c d
+IsPiece quote c (Err error) d = RefusedAs (StringStops quote c) error
 
--- the first byte, where there is one, passes the test
-abbrev pub begins : (ℕ → Bool) → List ℕ → Bool
-begins p [] = false
-begins p (b ∷ bs) = p b
+-- the token that such a lead begins
+abbrev pub IsKind : Lead → Cursor → Result TokenKind ReadNo → Cursor → Type 0
+IsKind lead c (Ok kind) d = Begins lead c kind d
+IsKind lead c (Err error) d = RefusedAs (Fails lead c) error
 
--- the longest text of bytes that pass the test leads from one cursor to the other
-pub record IsRun (test : ℕ → Bool) (text : List ℕ) (c d : Cursor) : Type 0 where
-  pub spans : Spans test text c d
-  pub ends : begins test d.rest ≡ false
+-- the next token, or none at the end
+abbrev pub IsNext : Cursor → Result (Option Token) ReadNo → Cursor → Type 0
+IsNext c (Ok (Some token)) d = IsToken c token d
+IsNext c (Ok None) d = IsEnd c
+IsNext c (Err error) d = RefusedAs (IsNoToken c) error

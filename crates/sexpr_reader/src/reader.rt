@@ -1,29 +1,15 @@
-ghost use Rattle.std.specs.Prelude.{◌≡◌, ◌≤◌, ◌↔◌, [], ◌∷◌, length, IsTrue, IfNone, IfSome, OnSome};
-ghost use Rattle.sexpr_reader.specs.Cursor.{Cursor, Over, start, next_spot};
-ghost use Rattle.sexpr_reader.specs.Steps.{has, begins, IsRun};
+ghost use Rattle.std.specs.Prelude.{◌≡◌, ◌≢◌, ◌≤◌, ◌+◌, [], ◌∷◌, length, take, None, IfNone, IfSome};
+ghost use Rattle.sexpr_reader.specs.Cursor.{Cursor, Over, start, next_spot, after};
+ghost use Rattle.sexpr_reader.specs.Bytes.{has};
+ghost use Rattle.sexpr_reader.specs.Gap.{Gap};
+ghost use Rattle.sexpr_reader.specs.Lead.{begins, lead_of};
+ghost use Rattle.sexpr_reader.specs.Runs.{IsRun};
+ghost use Rattle.sexpr_reader.specs.Steps.{gap_class};
 ghost use Rattle.sexpr_reader.specs.declared.source.TheConstants.{SOURCE_LIMIT};
 
+use crate::lead::{Class, Lead, lead_of};
 use std::marker::Model;
 use value_core::Place;
-
-/// Bytes that a run of one token, or of what stands between tokens, is made of.
-#[derive(Clone, Copy)]
-pub enum Class {
-    WhiteSpace,
-    /// The digits and the two signs.
-    Integer,
-}
-
-impl Class {
-    fn has(self, byte: u8) -> bool
-        ensures { result ≡ has self byte }
-    {
-        match self {
-            Class::WhiteSpace => matches!(byte, 9..=13 | b' ' | b','),
-            Class::Integer => matches!(byte, b'0'..=b'9' | b'+' | b'-'),
-        }
-    }
-}
 
 /// The line and the column after a byte.
 fn place_after(line: u32, column: u32, byte: u8) -> (u32, u32)
@@ -76,15 +62,16 @@ impl<'a> Reader<'a> {
         Place::new(self.line, self.column)
     }
 
-    pub fn is_at_end(&self) -> bool
-        ensures { IsTrue result ↔ (self.now.rest ≡ []) }
+    /// What begins here.
+    pub fn lead(&self) -> Lead
+        ensures { result ≡ lead_of self.now.rest }
     {
-        self.rest.is_empty()
+        lead_of(self.rest)
     }
 
     /// Goes one byte on.
     #[tactic(auto, unfolding(crate::specs::Cursor::after))]
-    fn advance(&mut self) -> Option<u8>
+    pub fn advance(&mut self) -> Option<u8>
         ensures end { IfNone result (self.old.rest ≡ []) }
         ensures step { IfSome result (λ byte. Over (byte ∷ []) self.old self.new) }
     {
@@ -98,20 +85,14 @@ impl<'a> Reader<'a> {
         Some(*first)
     }
 
-    /// Goes over the text, where the source has it here.
-    pub fn strip(&mut self, text: &[u8]) -> Option<()>
-        ensures over { OnSome result (Over text.now self.old self.new) }
-        ensures other { IfNone result ((d : Cursor) → Over text.now self.old d → ⊥) }
+    /// Goes that many bytes on.
+    pub fn pass(&mut self, count: usize)
+        requires { count ≤ length self.old.rest }
+        ensures { Over (take count self.old.rest) self.old self.new }
     {
-        for byte in text {
-            let Some(next) = self.advance() else {
-                return None;
-            };
-            if next != *byte {
-                return None;
-            }
+        for index in 0..count {
+            self.advance();
         }
-        Some(())
     }
 
     /// Goes over the longest text of bytes of the class, and answers it.
@@ -125,12 +106,33 @@ impl<'a> Reader<'a> {
         &from[..from.len() - self.rest.len()]
     }
 
-    fn begins(&self, class: Class) -> bool
+    pub fn begins(&self, class: Class) -> bool
         ensures { result ≡ begins (has class) self.now.rest }
     {
         match self.rest {
             [] => false,
             [first, ..] => class.has(*first),
         }
+    }
+
+    /// Goes over white space and comments.
+    pub fn skip(&mut self)
+        ensures gap { Gap self.old self.new }
+        ensures ends { gap_class (lead_of self.new.rest) ≡ None }
+    {
+        while let Some(class) = gap_class(self.lead()) {
+            self.run(class);
+        }
+    }
+}
+
+/// What goes on from such a lead, where that only separates.
+fn gap_class(lead: Lead) -> Option<Class>
+    ensures { result ≡ gap_class lead }
+{
+    match lead {
+        Lead::WhiteSpace => Some(Class::WhiteSpace),
+        Lead::Comment => Some(Class::Line),
+        _ => None,
     }
 }

@@ -1,12 +1,15 @@
-ghost use Rattle.std.specs.Prelude.{◌≡◌, List, IfOk, IfErr};
+ghost use Rattle.std.specs.Prelude.{◌≡◌, ◌≤◌, List, length, take, IfOk, IfErr};
+ghost use Rattle.std.specs.Str.{IsUtf8};
 ghost use Rattle.sexpr_reader.specs.declared.form.Form.{Form};
-ghost use Rattle.sexpr_reader.specs.Cursor.{start};
-ghost use Rattle.sexpr_reader.specs.Grammar.{IsSource, IsRefusal};
+ghost use Rattle.sexpr_reader.specs.Cursor.{start, after};
+ghost use Rattle.sexpr_reader.specs.Forms.{Spells};
+ghost use Rattle.sexpr_reader.specs.Grammar.{IsSource, IsRefused, RefusedAs, source};
 
-use crate::call::{form_of, read_call};
-use crate::error::{ReadKind, ReadNo};
+use crate::error::{ReadKind, ReadNo, refused};
 use crate::form::Forms;
-use crate::reader::{Class, Reader};
+use crate::lexer::next_token;
+use crate::nest::Nest;
+use crate::reader::Reader;
 use std::alloc::Global;
 use value_core::Place;
 
@@ -15,35 +18,52 @@ pub const SOURCE_LIMIT: usize = 4_194_304;
 
 /// Reads the forms of a source, each with its place.
 ///
-/// A source of more than `SOURCE_LIMIT` bytes is `TooLong`, and any other that is not made of `(println INT)` forms is
-/// `NotYet`, both at line 1, column 1.
+/// A source of more than `SOURCE_LIMIT` bytes is `TooLong` at line 1, column 1, and bytes that are no UTF-8 are
+/// `BadByte` at the first byte that does not fit. Else the tokens are read from left to right, and the first that is
+/// refused decides.
 pub fn read(alloc: Global, bytes: &[u8]) -> Result<Forms, ReadNo>
     ensures found { IfOk result (IsSource bytes.now) }
     ensures only { (forms : List Form) → IsSource bytes.now forms → IfOk result (λ found. found ≡ forms) }
-    ensures refused { IfErr result (IsRefusal bytes.now) }
+    ensures refused { IfErr result (RefusedAs (IsRefused bytes.now)) }
 {
     if bytes.len() > SOURCE_LIMIT {
-        return Err(refusal(ReadKind::TooLong));
+        return Err(too_long());
     }
-    let mut reader = Reader::new(bytes);
-    let mut forms = Forms::new(alloc);
-    reader.run(Class::WhiteSpace);
-    'forms: while !reader.is_at_end() {
-        let Some(call) = read_call(&mut reader) else {
-            return Err(refusal(ReadKind::NotYet));
-        };
-        let form = form_of(alloc, call).map_err(|_| ReadNo::Memory)?;
-        forms.push(form).map_err(|_| ReadNo::Memory)?;
-        reader.run(Class::WhiteSpace);
+    match str::from_utf8(bytes) {
+        Ok(_) => read_forms(alloc, bytes),
+        Err(error) => Err(refused(ReadKind::BadByte, place_of(bytes, error.valid_up_to()))),
     }
-    Ok(forms)
 }
 
-fn refusal(kind: ReadKind) -> ReadNo
-    ensures { result ≡ ReadNo.Refused kind start }
+fn too_long() -> ReadNo
+    ensures { result ≡ ReadNo.Refused ReadKind.TooLong start }
 {
-    ReadNo::Refused {
-        kind,
-        at: Place::new(1, 1),
+    refused(ReadKind::TooLong, Place::new(1, 1))
+}
+
+/// The place of the byte with this index.
+fn place_of(bytes: &[u8], index: usize) -> Place
+    requires limit { length bytes.now ≤ SOURCE_LIMIT }
+    requires within { index ≤ length bytes.now }
+    ensures { result ≡ after start (take index bytes.now) }
+{
+    let mut reader = Reader::new(bytes);
+    reader.pass(index);
+    reader.place()
+}
+
+/// Reads the forms of a text.
+fn read_forms(alloc: Global, bytes: &[u8]) -> Result<Forms, ReadNo>
+    requires limit { length bytes.now ≤ SOURCE_LIMIT }
+    requires text { IsUtf8 bytes.now }
+    ensures found { IfOk result (Spells (source bytes.now)) }
+    ensures only { (forms : List Form) → Spells (source bytes.now) forms → IfOk result (λ found. found ≡ forms) }
+    ensures refused { IfErr result (RefusedAs (IsRefused bytes.now)) }
+{
+    let mut reader = Reader::new(bytes);
+    let mut nest = Nest::new(alloc);
+    'tokens: while let Some(token) = next_token(alloc, &mut reader)? {
+        nest.take(alloc, token)?;
     }
+    nest.finish()
 }

@@ -1,28 +1,18 @@
-use Rattle.std.proofs.Common.{◌≡◌, ◌≢◌, [], ◌∷◌, ◌++◌, refl, rules, arith}
-use Rattle.sexpr_reader.specs.Call.{call_form}
-use Rattle.sexpr_reader.proofs.Sources.{SoFar-begin, SoFar-more, SoFar-end, SoFar-all, SoFar-none}
+use Rattle.std.proofs.Common.{◌≡◌, ◌<◌, ◌≤◌, length, arith, rules}
+use Rattle.std.specs.Str.{IsUtf8}
+use Rattle.std.specs.Str.Lossy.{utf8_valid_len}
+use Rattle.sexpr_reader.specs.declared.source.TheConstants.{SOURCE_LIMIT}
+use Rattle.sexpr_reader.specs.Grammar.{IsRefused}
 use Rattle.sexpr_reader.proofs.source.read.Goals as goal
 
-pub forms-init : goal.forms-init
-forms-init c = rw c.new-forms.ensures (SoFar-begin c.run.result.now (rw c.new-reader.ensures at c.run.ensures))
+pub returns-then-bytes-gt-SOURCE_LIMIT-clause-refused : goal.returns-then-bytes-gt-SOURCE_LIMIT-clause-refused
+returns-then-bytes-gt-SOURCE_LIMIT-clause-refused c =
+    let long : SOURCE_LIMIT < length c.args.bytes.now = omega arith in
+    rw c.too_long.ensures (IsRefused.too_long long)
 
-pub forms-preserved : goal.forms-preserved
-forms-preserved c =
-    let pushed : c.push.new.self ≡ c.forms.forms ++ c.in_ok-form.form ∷ [] = search rules in
-    let form : c.in_ok-form.form ≡ call_form c.in-Some.call = search rules in
-    rw (pushed, form) (SoFar-more c.run-in-forms.result.now c.forms.invariant c.in-Some.ensures.found c.run-in-forms.ensures)
-
-pub returns-in_default-clause-refused : goal.returns-in_default-clause-refused
-returns-in_default-clause-refused c =
-    let more : c.forms.reader.rest ≢ [] = search rules in
-    rw c.refusal-in_default.ensures ((omega arith, SoFar-none c.forms.invariant more c.in_default.ensures.none), refl)
-
-pub returns-clause-found : goal.returns-clause-found
-returns-clause-found c =
-    let end : c.forms.reader.rest ≡ [] = search rules in
-    record { within = omega arith; spelled = SoFar-end c.forms.invariant end }
-
-pub returns-clause-only : goal.returns-clause-only
-returns-clause-only c forms s =
-    let end : c.forms.reader.rest ≡ [] = search rules in
-    SoFar-all c.forms.invariant end forms s.spelled
+pub returns-in-Err-clause-refused : goal.returns-in-Err-clause-refused
+returns-in-Err-clause-refused c =
+    let n : c.valid_up_to.result ≡ utf8_valid_len c.args.bytes.now = search rules in
+    let not : ¬ IsUtf8 c.args.bytes.now = search rules in
+    let within : length c.args.bytes.now ≤ SOURCE_LIMIT = omega arith in
+    rw (c.refused.ensures, c.place_of.ensures, n) (IsRefused.no_text within not)

@@ -1,5 +1,5 @@
 use Rattle.std.proofs.Common.{[], refl, sym, ◌∙◌}
-use Rattle.sexpr_reader.specs.Steps.{has}
+use Rattle.sexpr_reader.specs.Bytes.{has}
 use Rattle.sexpr_reader.proofs.Cursors.{Over-none, Spans-step}
 use Rattle.sexpr_reader.proofs.reader.Reader.run.Goals as goal
 

@@ -1,6 +1,6 @@
 use Rattle.std.proofs.Common.{ℕ, List, length}
 use Rattle.sexpr_reader.specs.Cursor.{Spans}
-use Rattle.sexpr_reader.specs.Steps.{has}
+use Rattle.sexpr_reader.specs.Bytes.{has}
 use Rattle.sexpr_reader.proofs.reader.Reader.run.Given as goal
 
 abbrev pub invariant-loop-class : goal.invariant-loop-class

@@ -1,0 +1,20 @@
+ghost use Rattle.std.specs.Prelude.{◌≡◌, ℕ, List};
+ghost use Rattle.value_core.specs.Place.{Spot};
+ghost use Rattle.sexpr_reader.specs.declared.error.ReadKind.{ReadKind};
+ghost use Rattle.sexpr_reader.specs.declared.form.Form.{Form};
+ghost use Rattle.sexpr_reader.specs.Grammar.{IsSource, IsRefused};
+
+/// The law that bytes are spelled by one list of forms at most.
+pub fn spelled_once()
+    ensures { (bytes : List ℕ) (forms : List Form) (others : List Form) → IsSource bytes forms → IsSource bytes others → forms ≡ others }
+{}
+
+/// The law that no bytes are both spelled and refused.
+pub fn spelled_or_refused()
+    ensures { (bytes : List ℕ) (forms : List Form) (kind : ReadKind) (at : Spot) → IsSource bytes forms → IsRefused bytes kind at → ⊥ }
+{}
+
+/// The law that bytes are refused with one kind at one place at most.
+pub fn refused_once()
+    ensures { (bytes : List ℕ) (kind : ReadKind) (other : ReadKind) (at : Spot) (place : Spot) → IsRefused bytes kind at → IsRefused bytes other place → (kind ≡ other) × (at ≡ place) }
+{}

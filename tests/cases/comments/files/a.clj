@@ -1,0 +1,4 @@
+; a comment
+(println 1) ; another ) (
+(println ;; here
+ 2)

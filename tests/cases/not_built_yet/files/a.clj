@@ -1,0 +1,2 @@
+(def r (ref 0))
+(dosync (alter r + 1))
