@@ -1,0 +1,6 @@
+pub mod Children
+pub mod Inside
+pub mod Limit
+pub mod Numbers
+pub mod Table
+pub mod WellFormed
