@@ -1,4 +1,4 @@
-ghost use Rattle.std.specs.Prelude.{◌≡◌, [], ◌∷◌, ◌++◌, T, OnOk, OnErr, IfOk, IfErr};
+ghost use Rattle.std.specs.Prelude.{◌≡◌, [], ◌∷◌, ◌++◌, T, OnOk, OnErr, IfOk, IfErr, IsOk, IsSome};
 ghost use Rattle.std.specs.Option.{option_copied};
 ghost use Rattle.value_core.specs.Pairs.{keys_rise, find_key, put_key, without_key, pair_of, IsPlaceOf, IsGapFor};
 
@@ -81,6 +81,7 @@ impl<V: Drop> Dict<V> {
     pub fn put(&mut self, key: Key, value: V) -> Result<(), AllocError>
         ensures ok { OnOk result (self.new ≡ put_key key value self.old) }
         ensures err { OnErr result (self.new ≡ self.old) }
+        ensures present { IsSome (find_key key self.old) → IsOk result }
     {
         match self.search(&key) {
             Ok(at) => {

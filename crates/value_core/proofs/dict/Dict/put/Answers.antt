@@ -1,6 +1,6 @@
 use Rattle.std.proofs.Common.{sym}
 use Rattle.value_core.specs.Pairs.{IsPlaceOf, IsGapFor}
-use Rattle.value_core.proofs.PairLaws.{put_place, put_none, keys_rise-put}
+use Rattle.value_core.proofs.PairLaws.{find_none, put_place, put_none, keys_rise-put}
 use Rattle.value_core.proofs.dict.Dict.put.Goals as goal
 
 -- the pair with the key is written over
@@ -21,3 +21,7 @@ invariant_of-self-in-Err g c =
 pub returns-in_ok-insert-in-Err-clause-ok : goal.returns-in_ok-insert-in-Err-clause-ok
 returns-in_ok-insert-in-Err-clause-ok g c =
     rw (c.in_ok-insert-in-Err.ensures.items, c.self.view_is) (sym (put_none _ c.args.key c.args.value _ c.in-Err.ensures.absent))
+
+-- where no memory was found, the key is not there
+pub returns-in_err-insert-in-Err-clause-present : goal.returns-in_err-insert-in-Err-clause-present
+returns-in_err-insert-in-Err-clause-present g c = rw (find_none _ _ _ c.in-Err.ensures.absent) (λ there. absurd (cc))
