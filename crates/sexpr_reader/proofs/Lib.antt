@@ -1,4 +1,6 @@
 pub mod Cursors
+pub mod Every
+pub mod Found
 pub mod Integers
 pub mod Never
 pub mod Leads

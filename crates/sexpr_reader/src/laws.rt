@@ -1,4 +1,4 @@
-ghost use Rattle.std.specs.Prelude.{◌≡◌, ℕ, List};
+ghost use Rattle.std.specs.Prelude.{◌≡◌, ◌⊎◌, ℕ, List};
 ghost use Rattle.value_core.specs.Place.{Spot};
 ghost use Rattle.sexpr_reader.specs.declared.error.ReadKind.{ReadKind};
 ghost use Rattle.sexpr_reader.specs.declared.form.Form.{Form};
@@ -17,4 +17,9 @@ pub fn spelled_or_refused()
 /// The law that bytes are refused with one kind at one place at most.
 pub fn refused_once()
     ensures { (bytes : List ℕ) (kind : ReadKind) (other : ReadKind) (at : Spot) (place : Spot) → IsRefused bytes kind at → IsRefused bytes other place → (kind ≡ other) × (at ≡ place) }
+{}
+
+/// The law that all bytes are spelled by some forms or refused with some kind at some place.
+pub fn every_text()
+    ensures { (bytes : List ℕ) → ((forms : List Form) × IsSource bytes forms) ⊎ ((kind : ReadKind) × (at : Spot) × IsRefused bytes kind at) }
 {}
