@@ -1,5 +1,8 @@
+pub mod AtomTexts
 pub mod Cursors
 pub mod Every
+pub mod FormFolds
+pub mod FormTexts
 pub mod Found
 pub mod Integers
 pub mod Never
@@ -9,5 +12,7 @@ pub mod Refusals
 pub mod Runs
 pub mod Same
 pub mod Spaces
+pub mod SpelledTexts
+pub mod Texts
 pub mod Unique
 pub mod Sources

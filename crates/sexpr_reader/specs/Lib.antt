@@ -8,6 +8,7 @@ pub mod Lead
 pub mod Names
 pub mod Nest
 pub mod Opens
+pub mod Places
 pub mod Runs
 pub mod Spelling
 pub mod Steps

@@ -19,7 +19,7 @@ mod token;
 
 pub use error::{ReadKind, ReadNo};
 pub use form::{Form, FormKind, Forms};
-pub use laws::{every_text, refused_once, spelled_once, spelled_or_refused};
+pub use laws::{every_text, refused_once, spelled_again, spelled_once, spelled_or_refused};
 pub use nest::NEST_LIMIT;
 pub use source::{SOURCE_LIMIT, read};
 pub use spelling::spell;
