@@ -110,6 +110,11 @@ name_found t name e first run ends = rw e (record {
   fits = run.spans.each;
 })
 
+pub colon_fails : {A : Type 0} (r : Result A ReadNo) {c m : Cursor} (colon : Spot) → colon ≡ c.at → OneByte c m
+    → IfErr r (λ error. (begins is_word_byte m.rest ≡ false) × (error ≡ Refused BadByte colon)) → IfErr r (RefusedAs (Fails Colon c))
+colon_fails (Ok x) colon is one h = tt
+colon_fails (Err error) colon is one h = rw (h.1, is) (Fails.colon one h.0)
+
 pub keyword_fails : (r : Result (List ℕ) ReadNo) {c m : Cursor} → OneByte c m → IfErr r (RefusedAs (λ kind at. (kind ≡ BadByte) × Misfit m at))
     → IfErr r (RefusedAs (Fails Colon c))
 keyword_fails (Ok name) one h = tt

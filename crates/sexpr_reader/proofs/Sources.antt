@@ -1,11 +1,12 @@
 -- What the reader has of a source, token by token.
 use Rattle.std.proofs.Common.{◌≡◌, ◌≢◌, ◌<◌, ◌≤◌, ◌⊎◌, inl, inr, ℕ, suc, Bool, true, false, List, [], ◌∷◌, ◌++◌, length, refl, sym, ◌∙◌, ap, subst, cond, arith, append_assoc, append-nil}
 use Rattle.std.proofs.lemmas.List.{length-map}
-use Rattle.std.specs.Prelude.{Option, None, Some, Result, Ok, Err, IfOk, IfErr}
+use Rattle.std.specs.Prelude.{Option, None, Some, Result, Ok, Err, IfOk, IfErr, take}
 use Rattle.std.specs.Str.{IsUtf8}
+use Rattle.std.specs.Str.Lossy.{utf8_valid_len}
 use Rattle.value_core.specs.Place.{Spot}
 use Rattle.sexpr_reader.specs.declared.error.ReadKind.{ReadKind}
-use Rattle.sexpr_reader.specs.declared.error.ReadKind.TheVariants.{Unclosed}
+use Rattle.sexpr_reader.specs.declared.error.ReadKind.TheVariants.{BadByte, Unclosed}
 use Rattle.sexpr_reader.specs.declared.error.ReadNo.{ReadNo}
 use Rattle.sexpr_reader.specs.declared.error.ReadNo.TheVariants.{Refused, Memory}
 use Rattle.sexpr_reader.specs.declared.form.Form.{Form}
@@ -17,7 +18,7 @@ use Rattle.sexpr_reader.specs.declared.token.Atom.{Atom}
 use Rattle.sexpr_reader.specs.declared.token.Token.{Token}
 use Rattle.sexpr_reader.specs.declared.token.TokenKind.{TokenKind}
 use Rattle.sexpr_reader.specs.declared.token.TokenKind.TheVariants.{Open, Close, Atom as AtomKind}
-use Rattle.sexpr_reader.specs.Cursor.{Cursor}
+use Rattle.sexpr_reader.specs.Cursor.{Cursor, start, after}
 use Rattle.sexpr_reader.specs.Forms.{form_at, group_kind, atom_kind, IsForm, AreForms, Spells}
 use Rattle.sexpr_reader.specs.Grammar.{IsOther, Stops, RefusedAs, IsRefused, source}
 use Rattle.sexpr_reader.specs.Steps.{IsNext}
@@ -409,6 +410,12 @@ SoFar-all whole c forms s e all h =
     let r = s.only all h in
     let nothing = none_left r.0 e r.1.forms_to in
     sym (append-nil forms) ∙ ap (λ x. forms ++ x) (sym nothing) ∙ sym r.2
+
+-- bytes that are no text
+pub text_fails : {A : Type 0} (bytes : List ℕ) (r : Result A ReadNo) → length bytes ≤ SOURCE_LIMIT
+    → IfErr r (λ error. ¬ IsUtf8 bytes × (error ≡ Refused BadByte (after start (take (utf8_valid_len bytes) bytes)))) → IfErr r (RefusedAs (IsRefused bytes))
+text_fails bytes (Ok x) within h = tt
+text_fails bytes (Err error) within h = rw h.1 (IsRefused.no_text within h.0)
 
 -- what becomes of the steps of a reader
 module _ (bytes : List ℕ) (c : Cursor) (within : length bytes ≤ SOURCE_LIMIT) (text : IsUtf8 bytes) where

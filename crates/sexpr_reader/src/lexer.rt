@@ -1,4 +1,4 @@
-ghost use Rattle.std.specs.Prelude.{◌≡◌, ◌≢◌, true, Ok, Err, Some, None, ◌∷◌, [], IfOk, IfErr};
+ghost use Rattle.std.specs.Prelude.{◌≡◌, ◌≢◌, true, false, Ok, Err, Some, None, ◌∷◌, [], IfOk, IfErr};
 ghost use Rattle.sexpr_reader.specs.Bytes.{has};
 ghost use Rattle.sexpr_reader.specs.Grammar.{RefusedAs};
 ghost use Rattle.sexpr_reader.specs.Lead.{begins, lead_of};
@@ -124,12 +124,21 @@ fn keyword(alloc: Global, reader: &mut Reader) -> Result<Text, ReadNo>
     ensures found { IfOk result (λ name. Begins Lead.Colon reader.old (TokenKind.Atom (Atom.Kw name)) reader.new) }
     ensures refused { IfErr result (RefusedAs (Fails Lead.Colon reader.old)) }
 {
-    let at = reader.place();
+    let colon = reader.place();
     reader.advance();
-    if !reader.begins(Class::Word) {
-        return Err(refused(ReadKind::BadByte, at));
-    }
+    expect_word(reader, colon)?;
     name(alloc, reader)
+}
+
+/// Checks that a word begins here, and refuses the colon before it where none does.
+fn expect_word(reader: &Reader, colon: Place) -> Result<(), ReadNo>
+    ensures word { IfOk result (λ _. begins (has Class.Word) reader.now.rest ≡ true) }
+    ensures refused { IfErr result (λ error. (begins (has Class.Word) reader.now.rest ≡ false) × (error ≡ ReadNo.Refused BadByte colon)) }
+{
+    if !reader.begins(Class::Word) {
+        return Err(refused(ReadKind::BadByte, colon));
+    }
+    Ok(())
 }
 
 /// The symbol, `nil`, `true` or `false` that begins here.

@@ -1,5 +1,6 @@
 ghost use Rattle.std.specs.Prelude.{◌≡◌, ◌≤◌, List, length, take, IfOk, IfErr};
 ghost use Rattle.std.specs.Str.{IsUtf8};
+ghost use Rattle.std.specs.Str.Lossy.{utf8_valid_len};
 ghost use Rattle.sexpr_reader.specs.declared.form.Form.{Form};
 ghost use Rattle.sexpr_reader.specs.Cursor.{start, after};
 ghost use Rattle.sexpr_reader.specs.Forms.{Spells};
@@ -29,16 +30,26 @@ pub fn read(alloc: Global, bytes: &[u8]) -> Result<Forms, ReadNo>
     if bytes.len() > SOURCE_LIMIT {
         return Err(too_long());
     }
-    match str::from_utf8(bytes) {
-        Ok(_) => read_forms(alloc, bytes),
-        Err(error) => Err(refused(ReadKind::BadByte, place_of(bytes, error.valid_up_to()))),
-    }
+    expect_text(bytes)?;
+    read_forms(alloc, bytes)
 }
 
 fn too_long() -> ReadNo
     ensures { result ≡ ReadNo.Refused ReadKind.TooLong start }
 {
     refused(ReadKind::TooLong, Place::new(1, 1))
+}
+
+/// Checks that the bytes are UTF-8, and refuses the first byte that does not fit where they are not.
+fn expect_text(bytes: &[u8]) -> Result<(), ReadNo>
+    requires { length bytes.now ≤ SOURCE_LIMIT }
+    ensures text { IfOk result (λ _. IsUtf8 bytes.now) }
+    ensures refused { IfErr result (λ error. ¬ IsUtf8 bytes.now × (error ≡ ReadNo.Refused ReadKind.BadByte (after start (take (utf8_valid_len bytes.now) bytes.now)))) }
+{
+    match str::from_utf8(bytes) {
+        Ok(_) => Ok(()),
+        Err(error) => Err(refused(ReadKind::BadByte, place_of(bytes, error.valid_up_to()))),
+    }
 }
 
 /// The place of the byte with this index.
