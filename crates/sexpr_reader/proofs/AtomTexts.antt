@@ -119,10 +119,10 @@ minus_integer : (ds : List ℕ) (n : ℕ) → IsNumeral 10 ds → digits_value 1
 minus_integer ds n h value short fits = record { digits = h; shortest = short; value = ap (λ x. neg_ℤ (pos x)) value; fits = fits }
 
 decimal_short : (n : ℕ) → n < 2 ^ 64 → slice_index (decimal n) 0 ≡ 48 → length (decimal n) ≡ 1
-decimal_short n small zero = by (cases_eq n 0) where
+decimal_short n small begins_zero = by (cases_eq n 0) where
   by : (n ≡ 0) ⊎ (n ≡ 0 → ⊥) → length (decimal n) ≡ 1
   by (inl e) = rw e (ap length (decimal_digit 0 (omega arith)))
-  by (inr e) = absurd (let n_pos : 0 < n = omega arith in omega (arith, first_decimal n n_pos small, zero))
+  by (inr e) = absurd (let n_pos : 0 < n = omega arith in omega (arith, first_decimal n n_pos small, begins_zero))
 
 signed_integer : (n : ℤ) → FitsSigned w64 n → IsInteger (signed_decimal n) n
 signed_integer (pos n) fits =

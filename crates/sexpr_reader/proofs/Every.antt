@@ -118,8 +118,8 @@ bytes_by : (bytes : List ℕ) (t : Bool) → length bytes ≤ SOURCE_LIMIT → i
 bytes_by bytes true within e = text_by bytes within (IsUtf8-from_is_utf8 bytes e) (outcome (source bytes))
 bytes_by bytes false within e = inr (_, _, IsRefused.no_text within (λ u. absurd (let x = is_utf8-from_IsUtf8 bytes u in cc)))
 
-pub spelled_or_refused : (bytes : List ℕ) → Either bytes
-spelled_or_refused bytes = by (cases_lt SOURCE_LIMIT (length bytes)) where
+pub every_text : (bytes : List ℕ) → Either bytes
+every_text bytes = by (cases_lt SOURCE_LIMIT (length bytes)) where
   by : ((SOURCE_LIMIT < length bytes) ⊎ (length bytes ≤ SOURCE_LIMIT)) → Either bytes
   by (inl long) = inr (_, _, IsRefused.too_long long)
   by (inr within) = bytes_by bytes (is_utf8 bytes) within refl
