@@ -1,0 +1,4 @@
+pub mod Expansion
+pub mod Meaning
+pub mod Sugar
+pub mod Words

@@ -1,0 +1,77 @@
+-- The shorthands: what each comes to at the place where it is written.
+use Rattle.std.specs.Prelude.{ℕ, ◌+◌, if◌then◌else◌, List, [], ◌∷◌, codes}
+use Rattle.std.specs.List.{flat_map}
+use Rattle.value_core.specs.Place.{Spot}
+use Rattle.sugar.specs.declared.core_form.BadKind.TheVariants.{Arity, BadForm}
+use Rattle.sugar.specs.declared.core_form.Core.{Core}
+use Rattle.sugar.specs.declared.core_form.CoreKind.{CoreKind}
+use Rattle.sugar.specs.declared.core_form.CoreKind.TheVariants as core
+use Rattle.sugar.specs.Meaning.{Head, Meaning, core_at, symbol, nil, bad, fresh, cores, made_in, list}
+use Rattle.sugar.specs.Words.{is_form_word}
+
+-- (deref e)
+abbrev pub of_at : Spot → List Meaning → Meaning
+of_at at parts = list at (symbol (codes "deref") at ∷ parts)
+
+-- (if c a nil) for two arguments, else the list as it is
+abbrev pub of_if : Spot → Meaning → List Meaning → Meaning
+of_if at head (condition ∷ consequent ∷ []) = list at (head ∷ condition ∷ consequent ∷ nil at ∷ [])
+of_if at head arguments = list at (head ∷ arguments)
+
+-- one expression for some
+abbrev pub of_body : Spot → List Meaning → Meaning
+of_body at [] = nil at
+of_body at (expression ∷ []) = expression
+of_body at expressions = list at (symbol (codes "do") at ∷ expressions)
+
+-- (if c body nil)
+abbrev pub of_when : Spot → List Meaning → Meaning
+of_when at [] = bad Arity at
+of_when at (condition ∷ expressions) = list at (symbol (codes "if") at ∷ condition ∷ of_body at expressions ∷ nil at ∷ [])
+
+-- (get m :k) and (get m :k d)
+abbrev pub of_keyword : Spot → Meaning → List Meaning → Meaning
+of_keyword at keyword (map ∷ []) = list at (symbol (codes "get") at ∷ map ∷ keyword ∷ [])
+of_keyword at keyword (map ∷ default ∷ []) = list at (symbol (codes "get") at ∷ map ∷ keyword ∷ default ∷ [])
+of_keyword at keyword arguments = bad Arity at
+
+-- the head that the second argument of an alter becomes: a symbol that is the name of a function or primitive
+abbrev pub callee_kind : Head → CoreKind
+callee_kind (Head.Word word) = if is_form_word word then core.Bad BadForm else core.Sym word
+callee_kind Head.Keyword = core.Bad BadForm
+callee_kind Head.Other = core.Bad BadForm
+
+abbrev pub callee : Meaning → Core
+callee function = core_at function.at (callee_kind function.head)
+
+-- each value behind a name made for it
+abbrev pub bindings : Spot → List Meaning → List Meaning
+bindings at values = flat_map (λ value. fresh at ∷ value ∷ []) values
+
+-- the names of these bindings
+abbrev pub names : Spot → List Meaning → ℕ → List Core
+names at [] next = []
+names at (value ∷ values) next = core_at at (core.Fresh next) ∷ names at values (next + 1 + value.made)
+
+abbrev pub call : Spot → Core → List Core → Core
+call at head arguments = core_at at (core.List (head ∷ arguments))
+
+abbrev pub word : Spot → List ℕ → Core
+word at name = core_at at (core.Sym name)
+
+-- (ref-set t (f (deref t) t1 t2))
+abbrev pub altered : Spot → Core → Core → List Core → Core
+altered at function t ts =
+    call at (word at (codes "ref-set")) (t ∷ call at function (call at (word at (codes "deref")) (t ∷ []) ∷ ts) ∷ [])
+
+-- (let [t r t1 a1 t2 a2] (ref-set t (f (deref t) t1 t2)))
+abbrev pub of_alter : Spot → List Meaning → Meaning
+of_alter at (ref ∷ function ∷ arguments) = record {
+  at = at;
+  head = Head.Other;
+  core = λ next. call at (word at (codes "let")) (
+      core_at at (core.Vector (cores (bindings at (ref ∷ arguments)) next))
+      ∷ altered at (callee function) (core_at at (core.Fresh next)) (names at arguments (next + 1 + ref.made)) ∷ []);
+  made = made_in (bindings at (ref ∷ arguments));
+}
+of_alter at arguments = bad Arity at
