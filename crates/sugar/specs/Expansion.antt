@@ -7,26 +7,37 @@ use Rattle.sexpr_reader.specs.declared.form.FormKind.TheOpen as one
 use Rattle.sexpr_reader.specs.declared.form.FormKind.TheFolds.{fold-Form}
 use Rattle.sugar.specs.declared.core_form.Core.{Core}
 use Rattle.sugar.specs.declared.core_form.CoreKind.TheVariants as core
+use Rattle.sugar.specs.declared.expansion.Sugar.{Sugar}
+use Rattle.sugar.specs.declared.expansion.Sugar.TheVariants.{Plain, If, When, Lookup, Alter}
 use Rattle.sugar.specs.Meaning.{Head, Meaning, atom, symbol, cores, group, list}
 use Rattle.sugar.specs.Sugar.{of_at, of_if, of_when, of_keyword, of_alter}
 
--- a list with a symbol for a head
-abbrev pub of_word : List ℕ → Spot → Meaning → List Meaning → Meaning
-of_word word at head arguments =
-    if bytes_eq word (codes "if") then of_if at head arguments
-    else (if bytes_eq word (codes "when") then of_when at arguments
-    else (if bytes_eq word (codes "alter") then of_alter at arguments
-    else list at (head ∷ arguments)))
+abbrev pub sugar_named : List ℕ → Sugar
+sugar_named word =
+    if bytes_eq word (codes "if") then If
+    else (if bytes_eq word (codes "when") then When
+    else (if bytes_eq word (codes "alter") then Alter
+    else Plain))
 
-abbrev pub of_headed : Head → Spot → Meaning → List Meaning → Meaning
-of_headed (Head.Word word) at head arguments = of_word word at head arguments
-of_headed Head.Keyword at head arguments = of_keyword at head arguments
-of_headed Head.Other at head arguments = list at (head ∷ arguments)
+abbrev pub sugar_at : Head → Sugar
+sugar_at (Head.Word word) = sugar_named word
+sugar_at Head.Keyword = Lookup
+sugar_at Head.Other = Plain
 
--- the head of a list decides
+-- the head of a list decides what it is a shorthand for
+abbrev pub sugar_in : List Meaning → Sugar
+sugar_in [] = Plain
+sugar_in (head ∷ arguments) = sugar_at head.head
+
+abbrev pub of_sugar : Sugar → Spot → List Meaning → Meaning
+of_sugar Plain = list
+of_sugar If = of_if
+of_sugar When = of_when
+of_sugar Lookup = of_keyword
+of_sugar Alter = of_alter
+
 abbrev pub of_list : Spot → List Meaning → Meaning
-of_list at [] = list at []
-of_list at (head ∷ arguments) = of_headed head.head at head arguments
+of_list at parts = of_sugar (sugar_in parts) at parts
 
 -- one level of a form, with the meaning of each part in its place
 abbrev pub kind_step : one.FormKind-F (Spot → Meaning) Meaning → Spot → Meaning

@@ -9,14 +9,14 @@ use Rattle.sugar.specs.declared.core_form.CoreKind.TheVariants as core
 use Rattle.sugar.specs.Meaning.{Head, Meaning, core_at, symbol, nil, bad, fresh, cores, made_in, list}
 use Rattle.sugar.specs.Words.{is_form_word}
 
--- (deref e)
+-- @e is (deref e); the reader gives an @ one part, and any number of parts would stand behind the deref
 abbrev pub of_at : Spot → List Meaning → Meaning
 of_at at parts = list at (symbol (codes "deref") at ∷ parts)
 
--- (if c a nil) for two arguments, else the list as it is
-abbrev pub of_if : Spot → Meaning → List Meaning → Meaning
-of_if at head (condition ∷ consequent ∷ []) = list at (head ∷ condition ∷ consequent ∷ nil at ∷ [])
-of_if at head arguments = list at (head ∷ arguments)
+-- (if c a) is (if c a nil)
+abbrev pub of_if : Spot → List Meaning → Meaning
+of_if at (head ∷ condition ∷ consequent ∷ []) = list at (head ∷ condition ∷ consequent ∷ nil at ∷ [])
+of_if at parts = list at parts
 
 -- one expression for some
 abbrev pub of_body : Spot → List Meaning → Meaning
@@ -24,16 +24,16 @@ of_body at [] = nil at
 of_body at (expression ∷ []) = expression
 of_body at expressions = list at (symbol (codes "do") at ∷ expressions)
 
--- (if c body nil)
+-- (when c e..) is (if c body nil)
 abbrev pub of_when : Spot → List Meaning → Meaning
-of_when at [] = bad Arity at
-of_when at (condition ∷ expressions) = list at (symbol (codes "if") at ∷ condition ∷ of_body at expressions ∷ nil at ∷ [])
+of_when at (head ∷ condition ∷ expressions) = list at (symbol (codes "if") at ∷ condition ∷ of_body at expressions ∷ nil at ∷ [])
+of_when at parts = bad Arity at
 
--- (get m :k) and (get m :k d)
-abbrev pub of_keyword : Spot → Meaning → List Meaning → Meaning
-of_keyword at keyword (map ∷ []) = list at (symbol (codes "get") at ∷ map ∷ keyword ∷ [])
-of_keyword at keyword (map ∷ default ∷ []) = list at (symbol (codes "get") at ∷ map ∷ keyword ∷ default ∷ [])
-of_keyword at keyword arguments = bad Arity at
+-- (:k m) is (get m :k), and (:k m d) is (get m :k d)
+abbrev pub of_keyword : Spot → List Meaning → Meaning
+of_keyword at (keyword ∷ map ∷ []) = list at (symbol (codes "get") at ∷ map ∷ keyword ∷ [])
+of_keyword at (keyword ∷ map ∷ default ∷ []) = list at (symbol (codes "get") at ∷ map ∷ keyword ∷ default ∷ [])
+of_keyword at parts = bad Arity at
 
 -- the head that the second argument of an alter becomes: a symbol that is the name of a function or primitive
 abbrev pub callee_kind : Head → CoreKind
@@ -64,9 +64,9 @@ abbrev pub altered : Spot → Core → Core → List Core → Core
 altered at function t ts =
     call at (word at (codes "ref-set")) (t ∷ call at function (call at (word at (codes "deref")) (t ∷ []) ∷ ts) ∷ [])
 
--- (let [t r t1 a1 t2 a2] (ref-set t (f (deref t) t1 t2)))
+-- (alter r f a1 a2) is (let [t r t1 a1 t2 a2] (ref-set t (f (deref t) t1 t2)))
 abbrev pub of_alter : Spot → List Meaning → Meaning
-of_alter at (ref ∷ function ∷ arguments) = record {
+of_alter at (head ∷ ref ∷ function ∷ arguments) = record {
   at = at;
   head = Head.Other;
   core = λ next. call at (word at (codes "let")) (
@@ -74,4 +74,4 @@ of_alter at (ref ∷ function ∷ arguments) = record {
       ∷ altered at (callee function) (core_at at (core.Fresh next)) (names at arguments (next + 1 + ref.made)) ∷ []);
   made = made_in (bindings at (ref ∷ arguments));
 }
-of_alter at arguments = bad Arity at
+of_alter at parts = bad Arity at

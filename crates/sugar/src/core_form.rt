@@ -1,3 +1,6 @@
+ghost use Rattle.std.specs.Prelude.{◌≡◌};
+ghost use Rattle.sugar.specs.Meaning.{core_at};
+
 use value_core::{Place, Seq, Text};
 
 /// A core form, and the place of the form in the source that it stands for.
@@ -39,3 +42,12 @@ pub type Cores = Seq<Core>;
 
 /// The core forms of a source.
 pub type Tops = Seq<Core>;
+
+impl Core {
+    /// The core form of this kind that stands for a form at this place.
+    pub fn new(at: Place, kind: CoreKind) -> Self
+        ensures { result ≡ core_at at kind }
+    {
+        Core { at, kind }
+    }
+}

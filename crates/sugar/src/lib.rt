@@ -2,7 +2,10 @@
 #![tactic(auto)]
 
 mod core_form;
+mod expansion;
+mod parts;
 mod words;
 
 pub use core_form::{BadKind, Core, CoreKind, Cores, Tops};
+pub use expansion::expand;
 pub use words::is_form_word;
