@@ -4,6 +4,8 @@
 mod core_form;
 mod expansion;
 mod parts;
+#[cfg(test)]
+mod tests;
 mod words;
 
 pub use core_form::{BadKind, Core, CoreKind, Cores, Tops};
