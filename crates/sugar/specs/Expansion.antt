@@ -12,6 +12,7 @@ use Rattle.sugar.specs.declared.expansion.Sugar.TheVariants.{Plain, If, When, Lo
 use Rattle.sugar.specs.Meaning.{Head, Meaning, atom, symbol, cores, group, list}
 use Rattle.sugar.specs.Sugar.{of_at, of_if, of_when, of_keyword, of_alter}
 
+-- what a list with this word for a head is a shorthand for
 abbrev pub sugar_named : List ℕ → Sugar
 sugar_named word =
     if bytes_eq word (codes "if") then If

@@ -20,7 +20,7 @@ pub record Meaning : Type 0 where
   pub core : ℕ → Core
   pub made : ℕ
 
--- this core form is a form's, and the next number is this one then
+-- the form comes to this core form where the next made name has this number, and the one after has that
 pub record Gives (m : Meaning) (next after : ℕ) (result : Core) : Type 0 where
   pub is : result ≡ m.core next
   pub counts : after ≡ next + m.made
