@@ -1,4 +1,5 @@
 pub mod Children
+pub mod Fits
 pub mod Inside
 pub mod Limit
 pub mod Numbers
