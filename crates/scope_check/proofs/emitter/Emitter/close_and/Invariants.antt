@@ -1,0 +1,16 @@
+use Rattle.std.proofs.Common.{◌≤◌, ◌+◌, length, drop, Ok}
+use Rattle.core_syntax.specs.WellFormed.{IsBelow}
+use Rattle.scope_check.specs.Chains.{closed, and_node}
+use Rattle.scope_check.specs.Made.{Makes}
+use Rattle.scope_check.proofs.emitter.Emitter.close_and.Given as goal
+
+abbrev pub invariant-parts : goal.invariant-parts
+invariant-parts l = record {
+  made : Makes (closed (and_node l.at l.frame) (l.level + l.left) (drop l.left l.parts) l.fn.last) l.initial.self (Ok l.rest) l.self;
+  in_range : l.left ≤ length l.parts;
+  below : IsBelow (length l.self.rows) l.rest;
+  kept : length l.initial.self.rows ≤ length l.self.rows;
+}
+
+abbrev pub decreases-parts : goal.decreases-parts
+decreases-parts l = l.left

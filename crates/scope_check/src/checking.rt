@@ -1,0 +1,95 @@
+ghost use Rattle.std.specs.Prelude.{IfOk, IfErr};
+ghost use Rattle.core_syntax.specs.Fits.{IsFitting};
+ghost use Rattle.value_ops.specs.Words.{takes_of};
+ghost use Rattle.scope_check.specs.Check.{IsFound, IsProgram, IsRefused, RefusedAs};
+ghost use Rattle.scope_check.specs.Planned.{IsPlanned, IsUnplanned};
+
+use crate::declared::{Declared, declare_all};
+use crate::early::first_early;
+use crate::error::{ScopeKind, ScopeNo, refused};
+use crate::first::first;
+use crate::locals::Locals;
+use crate::lower::lower;
+use crate::plan::{layout, units};
+use crate::reach::reached;
+use crate::refusal::Refusal;
+use crate::resolver::Resolver;
+use crate::top::TopForms;
+use crate::top_survey::survey_tops;
+use core_syntax::Program;
+use sexpr_reader::Forms;
+use std::alloc::{AllocError, Global};
+use sugar::expand;
+
+/// What was found in the forms of a source: what they come to, how many globals they bind, and what is wrong with them.
+#[derive(Drop)]
+pub struct Found {
+    pub tops: TopForms,
+    pub globals: u32,
+    pub wrong: Option<Refusal>,
+}
+
+/// The program of the forms of a source.
+///
+/// A refusal of the first four kinds comes before the others: that at the first place, and at one place the one of the
+/// lowest number. Only where there is none of these comes `EarlyGlobal`, at the first such form, and only then
+/// `TooManyNodes`. Want of memory can come at any time.
+pub fn check(alloc: Global, forms: &Forms) -> Result<Program, ScopeNo>
+    ensures program { IfOk result (IsProgram forms.now) }
+    // its nodes have frames in which each name lies, and each call has as many arguments as are taken
+    ensures fits { IfOk result (IsFitting takes_of) }
+    ensures refused { IfErr result (RefusedAs (IsRefused forms.now)) }
+{
+    let Found {
+        tops,
+        globals,
+        wrong,
+    } = resolve(alloc, forms)?;
+    match wrong {
+        Some(refusal) => Err(refused(refusal.kind, refusal.at)),
+        None => plan(alloc, &tops, globals),
+    }
+}
+
+fn resolve(alloc: Global, forms: &Forms) -> Result<Found, AllocError>
+    ensures { IfOk result (IsFound forms.now) }
+{
+    let cores = expand(alloc, forms)?;
+    let Declared {
+        definitions,
+        functions,
+        behaviours: _,
+        globals,
+        refusals,
+    } = declare_all(alloc, &cores)?;
+    let mut resolver = Resolver {
+        alloc,
+        definitions,
+        locals: Locals::new(alloc),
+        loops: functions,
+        refusals,
+    };
+    let tops = resolver.tops(cores.items())?;
+    let wrong = first(&resolver.refusals);
+    Ok(Found {
+        tops,
+        globals,
+        wrong,
+    })
+}
+
+// The program of top-level forms with which nothing is wrong.
+#[tactic(auto, using(crate::proofs::Rising::layout_rises))]
+fn plan(alloc: Global, tops: &TopForms, globals: u32) -> Result<Program, ScopeNo>
+    ensures program { IfOk result (IsPlanned tops.now globals) }
+    ensures refused { IfErr result (RefusedAs (IsUnplanned tops.now globals)) }
+{
+    let survey = survey_tops(alloc, tops)?;
+    let units = units(alloc, &survey)?;
+    let lists = reached(alloc, &units, globals)?;
+    if let Some(at) = first_early(&survey, &lists) {
+        return Err(refused(ScopeKind::EarlyGlobal, at));
+    }
+    let layout = layout(alloc, &survey, &lists)?;
+    lower(alloc, tops, &layout)
+}

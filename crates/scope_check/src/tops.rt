@@ -1,0 +1,159 @@
+ghost use Rattle.std.specs.Prelude.{◌≡◌, [], ◌∷◌, ◌++◌, length, IfOk};
+ghost use Rattle.scope_check.specs.Heads.{bound_name, checked_name};
+ghost use Rattle.scope_check.specs.Moves.{Bears, GivesTop, GivesTops, scope_in};
+ghost use Rattle.scope_check.specs.Shapes.{reaction_now};
+ghost use Rattle.scope_check.specs.Tops.{parameters, function_top, behaviour_top, global_top, value_top, malformed_top, top_of, tops_of, top_at, functions_behind, function_stand, outside};
+ghost use Rattle.scope_check.specs.Value.{meaning, meanings};
+
+use crate::error::ScopeKind;
+use crate::resolver::{Resolver, nil_at, number_of, one_more};
+use crate::shape::{Reaction, Shape, shape_of};
+use crate::stand::{Stand, Target};
+use crate::top::{Reacting, Top, TopForms, TopKind};
+use std::alloc::AllocError;
+use sugar::Core;
+use value_core::Place;
+
+impl Resolver {
+    /// What the top-level forms come to, where functions are numbered from 0.
+    pub fn tops(&mut self, forms: &[Core]) -> Result<TopForms, AllocError>
+        requires { self.old.locals ≡ [] }
+        ensures { IfOk result (GivesTops self.old self.new (tops_of forms.now 0 self.old.definitions self.old.loops)) }
+    {
+        let mut number = 0;
+        let mut tops = TopForms::new(self.alloc);
+        for form in forms {
+            let top = self.top(form, number)?;
+            number = functions_behind(&top.kind, number)?;
+            push(&mut tops, top)?;
+        }
+        Ok(tops)
+    }
+
+    // What a top-level form comes to, where the next function has that number.
+    fn top(&mut self, form: &Core, number: u32) -> Result<Top, AllocError>
+        requires { self.old.locals ≡ [] }
+        ensures { IfOk result (GivesTop self.old self.new (top_of form.now number self.old.definitions self.old.loops)) }
+    {
+        match shape_of(form) {
+            Shape::Function(_, parameters, body) => {
+                self.function_top(form.at, number, parameters, body)
+            }
+            Shape::Behaviour(_, reaction) => self.behaviour_top(form.at, reaction),
+            Shape::Global(_, value) => self.global_top(form.at, value),
+            Shape::Value => self.value_top(form),
+            Shape::Malformed => self.malformed_top(form.at),
+        }
+    }
+
+    fn function_top(
+        &mut self,
+        at: Place,
+        number: u32,
+        parameters: &[Core],
+        body: &[Core],
+    ) -> Result<Top, AllocError>
+        requires { self.old.locals ≡ [] }
+        ensures { IfOk result (GivesTop self.old self.new (function_top at number parameters.now body.now self.old.definitions self.old.loops)) }
+    {
+        let takes = number_of(parameters.len())?;
+        let stand = function_stand(number, takes);
+        self.parameters(parameters, stand)?;
+        let body = self.body(at, body, stand)?;
+        self.locals.leave(0);
+        Ok(top_at(at, TopKind::Function(takes, body)))
+    }
+
+    fn behaviour_top(&mut self, at: Place, reaction: Reaction) -> Result<Top, AllocError>
+        requires { self.old.locals ≡ [] }
+        ensures { IfOk result (GivesTop self.old self.new (behaviour_top at (reaction_now reaction.entry) self.old.definitions self.old.loops)) }
+    {
+        let head = Reacting {
+            at: reaction.at,
+            state: number_of(reaction.state.len())?,
+            message: number_of(reaction.message.len())?,
+        };
+        self.parameters(reaction.state, outside())?;
+        self.parameters(reaction.message, outside())?;
+        let body = self.body(reaction.at, reaction.body, outside())?;
+        self.locals.leave(0);
+        Ok(top_at(at, TopKind::Behaviour(head, body)))
+    }
+
+    fn global_top(&mut self, at: Place, value: &Core) -> Result<Top, AllocError>
+        requires { self.old.locals ≡ [] }
+        ensures { IfOk result (GivesTop self.old self.new (global_top at value.now self.old.definitions self.old.loops)) }
+    {
+        let value = self.value(value, outside())?;
+        Ok(top_at(at, TopKind::Global(value)))
+    }
+
+    fn value_top(&mut self, form: &Core) -> Result<Top, AllocError>
+        requires { self.old.locals ≡ [] }
+        ensures { IfOk result (GivesTop self.old self.new (value_top form.now.at form.now self.old.definitions self.old.loops)) }
+    {
+        let value = self.value(form, outside())?;
+        Ok(top_at(form.at, TopKind::Value(value)))
+    }
+
+    fn malformed_top(&mut self, at: Place) -> Result<Top, AllocError>
+        requires { self.old.locals ≡ [] }
+        ensures { IfOk result (GivesTop self.old self.new (malformed_top at self.old.loops)) }
+    {
+        self.note(ScopeKind::BadForm, at)?;
+        Ok(top_at(at, TopKind::Value(nil_at(at))))
+    }
+
+    // Binds the names of parameters.
+    fn parameters(&mut self, parts: &[Core], stand: Stand) -> Result<(), AllocError>
+        ensures { IfOk result (λ _. Bears self.old self.new (parameters (meanings parts.now) (scope_in self.old stand) self.old.loops)) }
+    {
+        for part in parts {
+            let name = self.binder(part, stand)?;
+            self.locals.bind(name)?;
+        }
+        Ok(())
+    }
+}
+
+// The number of the function behind a form.
+fn functions_behind(kind: &TopKind, number: u32) -> Result<u32, AllocError>
+    ensures { IfOk result (λ next. next ≡ functions_behind kind.now number) }
+{
+    match kind {
+        TopKind::Function(_, _) => one_more(number),
+        _ => Ok(number),
+    }
+}
+
+fn push(tops: &mut TopForms, top: Top) -> Result<(), AllocError>
+    ensures { IfOk result (λ _. tops.new ≡ tops.old ++ top ∷ []) }
+{
+    tops.push(top).map_err(|_| AllocError)
+}
+
+fn top_at(at: Place, kind: TopKind) -> Top
+    ensures { result ≡ top_at at kind }
+{
+    Top { at, kind }
+}
+
+// Where main and the bodies of behaviours stand.
+fn outside() -> Stand
+    ensures { result ≡ outside }
+{
+    Stand {
+        target: None,
+        tail: false,
+    }
+}
+
+// Where the body of a function stands.
+fn function_stand(number: u32, takes: u32) -> Stand
+    ensures { result ≡ function_stand number takes }
+{
+    Stand {
+        target: Some(Target { number, takes }),
+        tail: true,
+    }
+}
