@@ -3,7 +3,7 @@ use Rattle.std.specs.Prelude.{◌≡◌, ℕ, List, [], ◌∷◌, Option, None,
 use Rattle.std.specs.Option.{option_and_then}
 use Rattle.serial_model.specs.declared.entry.Entry.{Entry}
 use Rattle.serial_model.specs.declared.end.End.{End}
-use Rattle.serial_model.specs.declared.end.End.TheVariants.{Done}
+use Rattle.serial_model.specs.declared.end.End.TheVariants.{Done, Fault, Spent}
 use Rattle.serial_model.specs.State.{Setup, State, opening}
 use Rattle.serial_model.specs.Step.{step}
 
@@ -15,11 +15,13 @@ replay_from setup s (entry ∷ entries) = option_and_then (λ t. replay_from set
 abbrev pub replay : Setup → List Entry → Option State
 replay setup entries = replay_from setup (opening setup) entries
 
--- no entry is enabled, and so the end is Done
-pub record IsOver (setup : Setup) (s : State) (end : End) : Type 0 where
-  pub is : end ≡ Done
-  pub still : (entry : Entry) → step setup s entry ≡ None
+-- A state is over where an end is set, which is its end then, or where no entry is enabled, and then the end is Done.
+pub data IsOver (setup : Setup) (s : State) : End → Type 0 where
+  set : {end : End} → s.end ≡ Some end → IsOver setup s end
+  still : s.end ≡ None → ((entry : Entry) → step setup s entry ≡ None) → IsOver setup s Done
 
 -- the exit status of an end
 abbrev pub status : End → ℕ
 status Done = 0
+status (Fault code at unit) = 1
+status (Spent unit) = 5

@@ -1,6 +1,12 @@
+use value_core::{Code, Name, Place};
+
 /// How a run ends.
-#[derive(Clone, Copy, Debug, PartialEq, Eq)]
+#[derive(Drop)]
 pub enum End {
     /// Every unit is finished.
     Done,
+    /// A form of that unit failed, at that place.
+    Fault { code: Code, at: Place, unit: Name },
+    /// That unit would have entered one node more than it has fuel for.
+    Spent { unit: Name },
 }
