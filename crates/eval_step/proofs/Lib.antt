@@ -1,0 +1,11 @@
+pub mod Comings
+pub mod Goings
+pub mod Machines
+pub mod Nodes
+pub mod Outcomes
+pub mod Outs
+pub mod Returns
+pub mod Rows
+pub mod Runs
+pub mod Taking
+pub mod Walks

@@ -1,0 +1,24 @@
+use Rattle.std.proofs.Common.{length, subst}
+use Rattle.std.specs.Prelude.{All}
+use Rattle.std.proofs.lemmas.List.Elements.{All-tail}
+use Rattle.std.proofs.lemmas.Result.{IfOk-weaker}
+use Rattle.eval_step.specs.Walk.{ItemIn}
+use Rattle.eval_step.proofs.Returns.{delivers_item, delivers_last}
+use Rattle.eval_step.proofs.context.Context.deliver.Goals as goal
+
+pub resume-requires-clause-items : goal.resume-requires-clause-items
+resume-requires-clause-items c =
+    let P = ItemIn (length c.args.program.now.nodes) in
+    All-tail P c.in-Some.item c.pop.new.self (subst (All P) c.in-Some.ensures c.requires)
+
+pub returns-in-Some : goal.returns-in-Some
+returns-in-Some c =
+    let old = c.args.self.now in
+    IfOk-weaker c.resume.result _ _
+    (λ stands. delivers_item c.args.program.now old.frame old.stack c.pop.new.self c.in-Some.item c.args.value c.resume.new.self stands c.in-Some.ensures)
+    c.resume.ensures
+
+pub returns-in-None : goal.returns-in-None
+returns-in-None c =
+    let old = c.args.self.now in
+    delivers_last c.args.program.now old.frame old.stack c.args.value c.pop.new.self c.in-None.ensures.0 c.in-None.ensures.1

@@ -1,0 +1,34 @@
+use Rattle.std.proofs.lemmas.Result.{IfOk-weaker}
+use Rattle.eval_step.specs.Resume.{run}
+use Rattle.eval_step.proofs.Nodes.{enters_do, enters_if, enters_let, enters_others, level-plain}
+use Rattle.eval_step.proofs.context.Context.enter.Goals as goal
+
+pub returns-in-Do : goal.returns-in-Do
+returns-in-Do c =
+    let old = c.args.self.now in
+    IfOk-weaker c.take_part.result _ _
+    (λ stands. enters_do c.args.program.now c.args.inside old.frame old.stack c.requires.items c.args.id c.node.result.now c.node.ensures.value _ c.take_part.new.self stands c.in-Do.is)
+    c.take_part.ensures
+
+pub returns-in_ok-push-in-If : goal.returns-in_ok-push-in-If
+returns-in_ok-push-in-If c =
+    let old = c.args.self.now in
+    enters_if c.args.program.now c.args.inside old.frame old.stack c.requires.items c.args.id c.node.result.now c.node.ensures.value c.in-If.condition c.in-If.taken c.in-If.other c.push.new.self
+    c.in-If.is c.node.ensures.children c.requires.there c.in_ok-push-in-If.ensures
+
+pub returns-in-Let : goal.returns-in-Let
+returns-in-Let c =
+    let old = c.args.self.now in
+    IfOk-weaker c.take_bound.result _ _
+    (λ stands. enters_let c.args.program.now c.args.inside old.frame old.stack c.requires.items c.args.id c.node.result.now c.node.ensures.value _ _ c.take_bound.new.self stands c.in-Let.is)
+    c.take_bound.ensures
+
+pub returns-in_default : goal.returns-in_default
+returns-in_default c =
+    let old = c.args.self.now in
+    let table = c.args.program.now in
+    let inside = c.args.inside in
+    IfOk-weaker c.enter_arguments.result _ _
+    (λ stands. enters_others table inside old.frame old.stack c.requires.items c.args.id c.node.result.now c.node.ensures.value c.enter_arguments.new.self stands
+    (λ at fuel answers. level-plain table inside (run table inside) old.frame c.node.result.now at fuel answers c.in_default.not-Do c.in_default.not-If c.in_default.not-Let c.in_default.not-Dosync))
+    c.enter_arguments.ensures

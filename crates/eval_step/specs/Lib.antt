@@ -1,0 +1,7 @@
+pub mod Answered
+pub mod Evaluation
+pub mod Finish
+pub mod Frame
+pub mod Resume
+pub mod Steps
+pub mod Walk

@@ -1,0 +1,11 @@
+ghost use Rattle.std.specs.Prelude.{◌≡◌};
+
+use crate::frame::Frame;
+use crate::stack::Stack;
+
+/// The current frame, and what is still to be done with the value of the node that is evaluated in it.
+#[derive(Drop)]
+pub struct Context {
+    pub frame: Frame,
+    pub stack: Stack,
+}

@@ -1,0 +1,52 @@
+ghost use Rattle.std.specs.Prelude.{◌≡◌};
+ghost use Rattle.eval_step.specs.Answered.{answered, behind, halt_answered};
+
+use core_syntax::NodeId;
+use serial_model::{Answer, Halt};
+use value_core::{Place, Value};
+
+/// Where a machine stands.
+#[derive(Drop)]
+pub enum Control {
+    /// Before its body.
+    Begin(NodeId),
+    /// Before a node.
+    Enter(NodeId),
+    /// Behind a node, with its value.
+    Deliver(Value),
+    /// Where it stops.
+    Halted(Halt),
+    /// Where memory was wanting.
+    Failed,
+}
+
+impl Control {
+    /// Where a machine stands once its request has that answer.
+    pub fn answered(self, answer: Answer) -> Control
+        ensures { result ≡ answered self answer }
+    {
+        match self {
+            Control::Halted(halt) => halt_answered(halt, answer),
+            other => other,
+        }
+    }
+}
+
+fn halt_answered(halt: Halt, answer: Answer) -> Control
+    ensures { result ≡ halt_answered halt answer }
+{
+    match halt {
+        Halt::Ask(_, at) => behind(answer, at),
+        other => Control::Halted(other),
+    }
+}
+
+// Where a machine stands behind a request at that place that has that answer.
+fn behind(answer: Answer, at: Place) -> Control
+    ensures { result ≡ behind answer at }
+{
+    match answer {
+        Answer::Value(value) => Control::Deliver(value),
+        Answer::Fault(code) => Control::Halted(Halt::Fault(code, at)),
+    }
+}

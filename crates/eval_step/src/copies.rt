@@ -1,0 +1,159 @@
+ghost use Rattle.std.specs.Prelude.{◌≡◌, [], ◌∷◌, ◌++◌, IsErr, IfOk, OnOk, OnErr};
+ghost use Rattle.eval_step.specs.Walk.{FailedAt};
+
+use crate::context::Context;
+use crate::control::Control;
+use crate::frame::Frame;
+use crate::item::Item;
+use crate::stack::Stack;
+use crate::values::copy_list;
+use crate::walk::Walk;
+use serial_model::{Answer, Halt, Request};
+use std::alloc::{AllocError, Global};
+use value_core::Seq;
+
+/// An equal walk. Of a failed one there is none.
+pub fn copy_walk(alloc: Global, walk: &Walk) -> Result<Walk, AllocError>
+    ensures copied { IfOk result (λ copied. copied ≡ walk.now) }
+    ensures failed { FailedAt walk.now.control → IsErr result }
+{
+    Ok(Walk {
+        control: copy_control(alloc, &walk.control)?,
+        context: copy_context(alloc, &walk.context)?,
+        left: walk.left,
+    })
+}
+
+fn copy_context(alloc: Global, context: &Context) -> Result<Context, AllocError>
+    ensures { IfOk result (λ copied. copied ≡ context.now) }
+{
+    Ok(Context {
+        frame: Frame::copied(alloc, context.frame.values())?,
+        stack: copy_stack(alloc, &context.stack)?,
+    })
+}
+
+fn copy_control(alloc: Global, control: &Control) -> Result<Control, AllocError>
+    ensures copied { IfOk result (λ copied. copied ≡ control.now) }
+    ensures failed { FailedAt control.now → IsErr result }
+{
+    match control {
+        Control::Begin(body) => Ok(Control::Begin(*body)),
+        Control::Enter(id) => Ok(Control::Enter(*id)),
+        Control::Deliver(value) => Ok(Control::Deliver(value.copy(alloc)?)),
+        Control::Halted(halt) => Ok(Control::Halted(copy_halt(alloc, halt)?)),
+        Control::Failed => Err(AllocError),
+    }
+}
+
+fn copy_stack(alloc: Global, stack: &Stack) -> Result<Stack, AllocError>
+    ensures { IfOk result (λ copied. copied ≡ stack.now) }
+{
+    let mut copied = Stack::new(alloc);
+    for item in stack.from_last() {
+        copied.push(copy_item(alloc, item)?)?;
+    }
+    Ok(copied)
+}
+
+fn copy_item(alloc: Global, item: &Item) -> Result<Item, AllocError>
+    ensures { IfOk result (λ copied. copied ≡ item.now) }
+{
+    match item {
+        Item::Back(frame) => Ok(Item::Back(Frame::copied(alloc, frame.values())?)),
+        Item::Shrink(count) => Ok(Item::Shrink(*count)),
+        Item::Arguments(id, values, next) => {
+            let values = Frame::copied(alloc, values.values())?;
+            Ok(Item::Arguments(*id, values, *next))
+        }
+        Item::Choose(taken, other) => Ok(Item::Choose(*taken, *other)),
+        Item::Do(id, next) => Ok(Item::Do(*id, *next)),
+        Item::Let(id, next) => Ok(Item::Let(*id, *next)),
+        Item::Steps(id, next, binds) => Ok(Item::Steps(*id, *next, *binds)),
+    }
+}
+
+/// An equal halt.
+pub fn copy_halt(alloc: Global, halt: &Halt) -> Result<Halt, AllocError>
+    ensures { IfOk result (λ copied. copied ≡ halt.now) }
+{
+    match halt {
+        Halt::Ask(request, at) => Ok(Halt::Ask(copy_request(alloc, request)?, *at)),
+        Halt::Value(value) => Ok(Halt::Value(value.copy(alloc)?)),
+        Halt::Fault(code, at) => Ok(Halt::Fault(*code, *at)),
+        Halt::Spent => Ok(Halt::Spent),
+    }
+}
+
+fn copy_request(alloc: Global, request: &Request) -> Result<Request, AllocError>
+    ensures { IfOk result (λ copied. copied ≡ request.now) }
+{
+    match request {
+        Request::Print(line) => Ok(Request::Print(line.copy(alloc)?)),
+        Request::NewRef(content) => Ok(Request::NewRef(content.copy(alloc)?)),
+        Request::Deref(cell) => Ok(Request::Deref(cell.copy(alloc)?)),
+        Request::RefSet(cell, content) => Ok(Request::RefSet(
+            cell.copy(alloc)?,
+            content.copy(alloc)?,
+        )),
+        Request::Fork(body, frame) => Ok(Request::Fork(*body, copy_list(alloc, frame.items())?)),
+        Request::Join(future) => Ok(Request::Join(future.copy(alloc)?)),
+        Request::Dosync(body, frame) => Ok(Request::Dosync(
+            *body,
+            copy_list(alloc, frame.items())?,
+        )),
+        Request::Spawn(number, state) => Ok(Request::Spawn(
+            *number,
+            copy_list(alloc, state.items())?,
+        )),
+        Request::Send(actor, message) => {
+            let message = copy_list(alloc, message.items())?;
+            Ok(Request::Send(actor.copy(alloc)?, message))
+        }
+        Request::Become(number, state) => Ok(Request::Become(
+            *number,
+            copy_list(alloc, state.items())?,
+        )),
+        Request::SelfActor => Ok(Request::SelfActor),
+    }
+}
+
+/// Equal answers.
+pub fn copy_answers(alloc: Global, answers: &[Answer]) -> Result<Seq<Answer>, AllocError>
+    ensures { IfOk result (λ copied. copied ≡ answers.now) }
+{
+    let mut copied = Seq::new(alloc);
+    copied.reserve(answers.len())?;
+    for answer in answers {
+        push_answer(&mut copied, copy_answer(alloc, answer)?)?;
+    }
+    Ok(copied)
+}
+
+fn copy_answer(alloc: Global, answer: &Answer) -> Result<Answer, AllocError>
+    ensures { IfOk result (λ copied. copied ≡ answer.now) }
+{
+    match answer {
+        Answer::Value(value) => Ok(Answer::Value(value.copy(alloc)?)),
+        Answer::Fault(code) => Ok(Answer::Fault(*code)),
+    }
+}
+
+/// Appends an equal answer. For want of memory the answers stay.
+pub fn keep_answer(
+    alloc: Global,
+    answers: &mut Seq<Answer>,
+    answer: &Answer,
+) -> Result<(), AllocError>
+    ensures ok { OnOk result (answers.new ≡ answers.old ++ answer.now ∷ []) }
+    ensures err { OnErr result (answers.new ≡ answers.old) }
+{
+    push_answer(answers, copy_answer(alloc, answer)?)
+}
+
+fn push_answer(answers: &mut Seq<Answer>, answer: Answer) -> Result<(), AllocError>
+    ensures ok { OnOk result (answers.new ≡ answers.old ++ answer ∷ []) }
+    ensures err { OnErr result (answers.new ≡ answers.old) }
+{
+    answers.push(answer).map_err(|_| AllocError)
+}

@@ -1,0 +1,147 @@
+ghost use Rattle.std.specs.Prelude.{◌≡◌, ◌↔◌, ◌<◌, [], ◌∷◌, ◌++◌, length, IsTrue, IsErr, IfOk, OnOk, OnErr};
+ghost use Rattle.core_syntax.specs.Table.{Table};
+ghost use Rattle.serial_model.specs.Eval.{next};
+ghost use Rattle.eval_step.specs.Evaluation.{IsAsk, IsAsking, IsFailed, IsOf, IsSame, IsSameTask};
+
+use crate::context::Context;
+use crate::control::Control;
+use crate::copies::{copy_answers, copy_walk, keep_answer};
+use crate::frame::Frame;
+use crate::sameness::{same_answers, same_values};
+use crate::stack::Stack;
+use crate::values::copy_list;
+use crate::walk::Walk;
+use core_syntax::{NodeId, Program};
+use serial_model::{Answer, Halt};
+use std::alloc::{AllocError, Global};
+use std::marker::Model;
+use value_core::{Seq, Values};
+
+/// An evaluation that goes on from request to request.
+#[derive(Drop)]
+pub struct Machine {
+    body: NodeId,
+    values: Values,
+    inside: bool,
+    fuel: u64,
+    answers: Seq<Answer>,
+    inner: Walk,
+}
+
+impl Model for Machine {
+    ghost use Rattle.eval_step.specs.Evaluation.{Evaluation, evaluation_code};
+
+    ghost Value = { Evaluation };
+
+    ghost coded = { evaluation_code };
+
+    ghost view = { λ m. record {
+      body = m.body;
+      values = m.values;
+      inside = m.inside;
+      fuel = m.fuel;
+      answers = m.answers;
+      inner = m.inner;
+    } };
+}
+
+impl Machine {
+    /// A machine that is to evaluate the body in a frame of these values, in or outside a transaction, and enters at most
+    /// so many nodes. It has no answers yet.
+    pub fn start(
+        alloc: Global,
+        body: NodeId,
+        values: Values,
+        in_transaction: bool,
+        fuel: u64,
+    ) -> Result<Self, AllocError>
+        ensures body { IfOk result (λ machine. machine.body ≡ body) }
+        ensures values { IfOk result (λ machine. machine.values ≡ values) }
+        ensures inside { IfOk result (λ machine. machine.inside ≡ in_transaction) }
+        ensures fuel { IfOk result (λ machine. machine.fuel ≡ fuel) }
+        ensures answers { IfOk result (λ machine. machine.answers ≡ []) }
+        ensures stands { IfOk result (λ machine. (table : Table) → body.index < length table.nodes → IsOf table machine) }
+    {
+        let frame = Frame::copied(alloc, values.items())?;
+        let context = Context {
+            frame,
+            stack: Stack::new(alloc),
+        };
+        Ok(Machine {
+            body,
+            values,
+            inside: in_transaction,
+            fuel,
+            answers: Seq::new(alloc),
+            inner: Walk {
+                control: Control::Begin(body),
+                context,
+                left: fuel,
+            },
+        })
+    }
+
+    /// Goes on to where the body stops after the answers so far, and says where that is. A machine that asks and is run
+    /// again gives the same request again. For want of memory it has failed, and every later call finds no memory.
+    pub fn run_to_ask(&mut self, alloc: Global, program: &Program) -> Result<Halt, AllocError>
+        requires { IsOf program.now self.old }
+        ensures halt { IfOk result (λ halt. halt ≡
+            next program.now self.old.body self.old.values self.old.inside self.old.answers self.old.fuel) }
+        ensures kept { IsSame self.old self.new }
+        ensures stands { IsOf program.now self.new }
+        ensures asks { IfOk result (λ halt. IsAsk halt → IsAsking self.new) }
+        ensures failed { OnErr result (IsFailed self.new) }
+        ensures stays_failed { IsFailed self.old → IsErr result }
+    {
+        self.inner.run(alloc, program, self.inside)
+    }
+
+    /// Gives the answer to the request at which the machine stands. For want of memory it has failed, and every later
+    /// call finds no memory.
+    pub fn answer(&mut self, alloc: Global, answer: Answer) -> Result<(), AllocError>
+        requires { IsAsking self.old }
+        ensures kept { IsSameTask self.old self.new }
+        ensures answered { OnOk result (self.new.answers ≡ self.old.answers ++ answer ∷ []) }
+        ensures unanswered { OnErr result (self.new.answers ≡ self.old.answers) }
+        ensures stands { (table : Table) → IsOf table self.old → IsOf table self.new }
+        ensures failed { OnErr result (IsFailed self.new) }
+    {
+        match keep_answer(alloc, &mut self.answers, &answer) {
+            Ok(()) => {
+                self.inner.go_on(answer);
+                Ok(())
+            }
+            Err(error) => {
+                self.inner.fail();
+                Err(error)
+            }
+        }
+    }
+
+    /// An equal machine. Of a failed one there is none.
+    pub fn copy(&self, alloc: Global) -> Result<Machine, AllocError>
+        ensures copied { IfOk result (λ machine. machine ≡ self.now) }
+        ensures failed { IsFailed self.now → IsErr result }
+    {
+        Ok(Machine {
+            body: self.body,
+            values: copy_list(alloc, self.values.items())?,
+            inside: self.inside,
+            fuel: self.fuel,
+            answers: copy_answers(alloc, self.answers.items())?,
+            inner: copy_walk(alloc, &self.inner)?,
+        })
+    }
+
+    /// Whether the two evaluate the same body in the same frame, in or outside a transaction, with the same fuel, and have
+    /// been given the same answers. It takes no memory.
+    pub fn same(&self, other: &Machine) -> bool
+        ensures { IsTrue result ↔ IsSame self.now other.now }
+    {
+        self.body == other.body
+            && self.inside == other.inside
+            && self.fuel == other.fuel
+            && same_values(self.values.items(), other.values.items())
+            && same_answers(self.answers.items(), other.answers.items())
+    }
+}

@@ -1,0 +1,13 @@
+use crate::frame::Frame;
+use serial_model::Request;
+use value_core::{Code, Value};
+
+/// What the operation of a node comes to.
+#[derive(Drop)]
+pub enum Outcome {
+    Gives(Value),
+    Faults(Code),
+    Asks(Request),
+    /// A call of the function with that number, in that frame.
+    Calls(u32, Frame),
+}
