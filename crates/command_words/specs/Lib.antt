@@ -1,0 +1,4 @@
+pub mod Number
+pub mod Parser
+pub mod Reading
+pub mod Said

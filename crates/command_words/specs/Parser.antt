@@ -1,0 +1,74 @@
+-- What the parser of words is told of the commands, and which words are passed to it.
+use Rattle.std.specs.Prelude.{List, [], ◌∷◌, ◌++◌, Bool, true, false, not, ◌==◌, ◌&&◌, ◌||◌, Option, Some, None, map}
+use Rattle.std.specs.Prelude.{codes, if◌then◌else◌}
+use Rattle.std.specs.List.{list_any, after_first}
+use Rattle.std.specs.Option.{option_map_or}
+use Rattle.clap.specs.Words.{App, Rule, new_app, new_rule, with_rule, with_subcommand}
+use Rattle.clap.specs.Simple.{on_top}
+use Rattle.std.specs.Str.{bytes_eq}
+use Rattle.clap.specs.Walk.{Row, first_of, is_empty}
+use Rattle.command_words.specs.Reading.{Word, Form, is_fit, is_equals}
+use Rattle.command_words.specs.Said.{run_form, run_of, replay_form, replay_of, check_form, check_of}
+use Rattle.command_words.specs.declared.command.Command.{Command}
+
+-- a place, which has to have its word
+abbrev pub told_place : Word → Rule
+told_place name = record (new_rule name) { required = true }
+
+-- an option that takes a value
+abbrev pub told_option : Word → Rule
+told_option name = record (new_rule name) { long = Some name }
+
+-- the command with these places and options too
+abbrev pub with_rules : App → List Rule → App
+with_rules app [] = app
+with_rules app (rule ∷ rules) = with_rules (with_rule app rule) rules
+
+-- a command with the places and options of the form
+abbrev pub told_command : Word → Form → App
+told_command name form = with_rules (new_app name) (map told_place form.places ++ map told_option form.options)
+
+-- there is no word for the program's name, no help, and one of the commands is wanted
+abbrev pub with_settings : App → App
+with_settings app =
+    on_top (λ s. record s {
+      no_binary_name = true;
+      disable_help_flag = true;
+      disable_help_subcommand = true;
+      subcommand_required = true;
+    }) app
+
+-- all commands
+abbrev pub told : App
+told =
+    with_subcommand (with_subcommand (with_subcommand (with_settings (new_app (codes "chocola")))
+    (told_command (codes "run") run_form).top)
+    (told_command (codes "replay") replay_form).top)
+    (told_command (codes "check") check_form).top
+
+-- what stands behind two dashes
+abbrev pub behind_dashes : Word → Option Word
+behind_dashes [] = None
+behind_dashes (a ∷ []) = None
+behind_dashes (a ∷ b ∷ rest) = if a == 45 && b == 45 then Some rest else None
+
+-- the text is `NAME`, or `NAME=VALUE` with a fit value
+abbrev pub is_readable_option : Word → Bool
+is_readable_option text = if list_any is_equals text then is_fit (after_first is_equals text) else not (is_empty text)
+
+-- the word is fit or looks like an option with a fit value, so that the parser reads it by the rules
+abbrev pub is_readable : Word → Bool
+is_readable word = is_fit word || option_map_or is_readable_option (behind_dashes word) false
+
+-- the command of that name, of what its places and options are given
+abbrev pub command_named : Word → (Word → Option Word) → Option Command
+command_named title given =
+    if bytes_eq (codes "run") title then run_of given
+    else if bytes_eq (codes "replay") title then replay_of given
+    else if bytes_eq (codes "check") title then check_of given
+    else None
+
+-- the command that the parser found, with the rows of what it is given
+abbrev pub found_command : Option (Word × List Row) → Option Command
+found_command None = None
+found_command (Some found) = command_named found.0 (λ name. first_of name found.1)

@@ -1,0 +1,75 @@
+-- The command that the words of a command line say.
+use Rattle.std.specs.Prelude.{◌≡◌, ℕ, List, [], ◌∷◌, Bool, ◌&&◌, nat_le, Option, Some, None, Result, Ok, Err}
+use Rattle.std.specs.Prelude.{if◌then◌else◌, option_map, option_and_then, codes}
+use Rattle.std.specs.Str.{bytes_eq}
+use Rattle.serial_model.specs.Limits.{Budget, default_budget}
+use Rattle.command_words.specs.Number.{number_of}
+use Rattle.command_words.specs.Reading.{Word, Form, given_of, value_of}
+use Rattle.command_words.specs.declared.command.Command.{Command}
+use Rattle.command_words.specs.declared.command.Command.TheVariants.{Run, Replay, Check}
+use Rattle.command_words.specs.declared.words_no.WordsNo.{WordsNo}
+use Rattle.command_words.specs.declared.words_no.WordsNo.TheVariants.{Usage, Memory}
+
+-- `run FILE`, with `--fuel`, `--units` and `--trace`
+abbrev pub run_form : Form
+run_form = record { places = codes "file" ∷ []; options = codes "fuel" ∷ codes "units" ∷ codes "trace" ∷ [] }
+
+-- `replay FILE TRACE`
+abbrev pub replay_form : Form
+replay_form = record { places = codes "file" ∷ codes "trace" ∷ []; options = [] }
+
+-- `check FILE`
+abbrev pub check_form : Form
+check_form = record { places = codes "file" ∷ []; options = [] }
+
+-- the number that the value spells, and the default where there is no value
+abbrev pub number_or : ℕ → Option Word → Option ℕ
+number_or default None = Some default
+number_or default (Some text) = number_of text
+
+-- fuel is from 1 to 10,000,000, and units are from 1 to 1,000,000
+abbrev pub is_in_range : ℕ → ℕ → Bool
+is_in_range fuel units = (nat_le 1 fuel && nat_le fuel 10000000) && (nat_le 1 units && nat_le units 1000000)
+
+-- these limits, if they are in range
+abbrev pub budget_of : ℕ → ℕ → Option Budget
+budget_of fuel units = if is_in_range fuel units then Some (record { fuel = fuel; units = units }) else None
+
+-- the limits that the values of `--fuel` and `--units` say
+abbrev pub limits_of : (Word → Option Word) → Option Budget
+limits_of given =
+    option_and_then (λ fuel. option_and_then (budget_of fuel) (number_or default_budget.units (given (codes "units"))))
+    (number_or default_budget.fuel (given (codes "fuel")))
+
+-- the run that is said by what its places and options are given
+abbrev pub run_of : (Word → Option Word) → Option Command
+run_of given =
+    option_and_then (λ file. option_map (λ limits. Run file limits (given (codes "trace"))) (limits_of given))
+    (given (codes "file"))
+
+-- the replay that is said by what its places are given
+abbrev pub replay_of : (Word → Option Word) → Option Command
+replay_of given = option_and_then (λ file. option_map (Replay file) (given (codes "trace"))) (given (codes "file"))
+
+-- the check that is said by what its place is given
+abbrev pub check_of : (Word → Option Word) → Option Command
+check_of given = option_map Check (given (codes "file"))
+
+-- the command that the words behind its name say
+abbrev pub said_by : Form → ((Word → Option Word) → Option Command) → List Word → Option Command
+said_by form command words = option_and_then (λ given. command (value_of given)) (given_of form words)
+
+-- the command that the words say, and `None` where they are refused
+abbrev pub command_of : List Word → Option Command
+command_of [] = None
+command_of (name ∷ words) =
+    if bytes_eq (codes "run") name then said_by run_form run_of words
+    else if bytes_eq (codes "replay") name then said_by replay_form replay_of words
+    else if bytes_eq (codes "check") name then said_by check_form check_of words
+    else None
+
+-- the result is the command that is said, or `Usage` where none is, or tells of want of memory
+abbrev pub Reads : Option Command → Result Command WordsNo → Type 0
+Reads said (Ok command) = said ≡ Some command
+Reads said (Err Usage) = said ≡ None
+Reads said (Err Memory) = Unit {0}

@@ -1,0 +1,22 @@
+use serial_model::Limits;
+use value_core::Text;
+
+/// What a command line says.
+#[derive(Drop)]
+pub enum Command {
+    /// The run of the program in `file`, within the limits. Its trace is written to `trace`, where that is named.
+    Run {
+        file: Text,
+        limits: Limits,
+        trace: Option<Text>,
+    },
+    /// The replay of the run that `trace` holds, of the program in `file`.
+    Replay {
+        file: Text,
+        trace: Text,
+    },
+    /// The check of the program in `file`.
+    Check {
+        file: Text,
+    },
+}

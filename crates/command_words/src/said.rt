@@ -1,0 +1,97 @@
+ghost use Rattle.std.specs.Prelude.{◌≡◌, ◌≤◌, ◌^◌, Some, IfOk, IfSome, IfNone};
+ghost use Rattle.clap.specs.Words.{first_value, found_of, subcommand_rows_of};
+ghost use Rattle.command_words.specs.Parser.{command_named, found_command};
+ghost use Rattle.command_words.specs.Said.{Reads, check_of, limits_of, number_or, replay_of, run_of};
+
+use crate::command::Command;
+use crate::number::number;
+use crate::words_no::WordsNo;
+use clap::ArgMatches;
+use serial_model::Limits;
+use std::alloc::{AllocError, Global};
+use value_core::Text;
+
+/// The command that the parser found, and `Usage` where its values say none.
+pub(crate) fn said(alloc: Global, matches: &ArgMatches<'_>) -> Result<Command, WordsNo>
+    ensures { Reads (found_command (subcommand_rows_of matches.now)) result }
+{
+    match matches.subcommand() {
+        Some((name, given)) => command_named(alloc, name, given),
+        None => Err(WordsNo::Usage),
+    }
+}
+
+/// The command of that name that these values say.
+fn command_named(alloc: Global, name: &str, given: &ArgMatches<'_>) -> Result<Command, WordsNo>
+    ensures { Reads (command_named name.now (first_value (found_of given.now))) result }
+{
+    match name {
+        "run" => run(alloc, given),
+        "replay" => replay(alloc, given),
+        "check" => check(alloc, given),
+        _ => Err(WordsNo::Usage),
+    }
+}
+
+/// The run that these values say.
+fn run(alloc: Global, given: &ArgMatches<'_>) -> Result<Command, WordsNo>
+    ensures { Reads (run_of (first_value (found_of given.now))) result }
+{
+    let file = text(alloc, given, "file")?.ok_or(WordsNo::Usage)?;
+    let trace = text(alloc, given, "trace")?;
+    let limits = limits(given).ok_or(WordsNo::Usage)?;
+    Ok(Command::Run {
+        file,
+        limits,
+        trace,
+    })
+}
+
+/// The replay that these values say.
+fn replay(alloc: Global, given: &ArgMatches<'_>) -> Result<Command, WordsNo>
+    ensures { Reads (replay_of (first_value (found_of given.now))) result }
+{
+    let file = text(alloc, given, "file")?.ok_or(WordsNo::Usage)?;
+    let trace = text(alloc, given, "trace")?.ok_or(WordsNo::Usage)?;
+    Ok(Command::Replay { file, trace })
+}
+
+/// The check that these values say.
+fn check(alloc: Global, given: &ArgMatches<'_>) -> Result<Command, WordsNo>
+    ensures { Reads (check_of (first_value (found_of given.now))) result }
+{
+    let file = text(alloc, given, "file")?.ok_or(WordsNo::Usage)?;
+    Ok(Command::Check { file })
+}
+
+/// The value of that name, if it has one.
+fn text(alloc: Global, given: &ArgMatches<'_>, name: &str) -> Result<Option<Text>, AllocError>
+    ensures { IfOk result (λ text. text ≡ first_value (found_of given.now) name.now) }
+{
+    match given.get_str(name) {
+        Some(value) => Ok(Some(Text::from_bytes(alloc, value.as_bytes())?)),
+        None => Ok(None),
+    }
+}
+
+/// The limits, and `None` where a value is no number or is out of its range.
+fn limits(given: &ArgMatches<'_>) -> Option<Limits>
+    ensures { result ≡ limits_of (first_value (found_of given.now)) }
+{
+    let fuel = number_or(given, "fuel", Limits::default().fuel())?;
+    let units = number_or(given, "units", u64::from(Limits::default().units()))?;
+    Limits::checked(fuel, u32::try_from(units).ok()?)
+}
+
+/// The number that the value of that name spells, or `default` where it has none. `None` where the value spells none,
+/// or one above a `u64`.
+fn number_or(given: &ArgMatches<'_>, name: &str, default: u64) -> Option<u64>
+    ensures some { IfSome result (λ n. number_or default (first_value (found_of given.now) name.now) ≡ Some n) }
+    ensures none { IfNone result (IfSome (number_or default (first_value (found_of given.now) name.now))
+        (λ n. 2 ^ 64 ≤ n)) }
+{
+    match given.get_str(name) {
+        Some(text) => number(text),
+        None => Some(default),
+    }
+}
