@@ -1,1 +1,1 @@
-(println 7)(println -0)
+(println "a" 1 nil [1 "b"])

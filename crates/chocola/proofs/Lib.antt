@@ -4,3 +4,4 @@ pub mod Loading
 pub mod Runs
 pub mod Finishes
 pub mod Said
+pub mod Waits

@@ -1,12 +1,17 @@
 -- The lines on standard error.
-use Rattle.std.specs.Prelude.{ℕ, List, [], ◌++◌, ◌==◌, if◌then◌else◌, Option, None, Some, codes, decimal}
+use Rattle.std.specs.Prelude.{ℕ, List, [], ◌∷◌, ◌++◌, flat_map, ◌==◌, if◌then◌else◌, Option, None, Some, codes, decimal}
+use Rattle.value_core.specs.Name.{name_text}
+use Rattle.value_core.specs.declared.code.Code.{Code}
+use Rattle.value_core.specs.declared.code.Code.TheVariants as code
+use Rattle.serial_model.specs.declared.end.End.{End}
+use Rattle.serial_model.specs.declared.end.End.TheVariants as end
 use Rattle.chocola.specs.declared.outcome.Part.{Part}
 use Rattle.chocola.specs.declared.outcome.Part.TheVariants.{Source, Scope}
 use Rattle.chocola.specs.declared.outcome.Detail.{Detail}
 use Rattle.chocola.specs.declared.outcome.Detail.TheVariants.{Nothing, Refused}
 use Rattle.chocola.specs.declared.load.LoadNo.{LoadNo}
 use Rattle.chocola.specs.declared.load.LoadNo.TheVariants as load
-use Rattle.chocola.specs.Outcome.{refused_as, not_yet}
+use Rattle.chocola.specs.Outcome.{refused_as, out_of_scope}
 use Rattle.chocola.specs.Words.{file_of}
 
 abbrev pub usage_line : List ℕ
@@ -29,7 +34,15 @@ kind_name Source kind =
     else (if kind == 6 then codes "TooNested"
     else (if kind == 7 then codes "TooLong"
     else []))))))
-kind_name Scope kind = if kind == 7 then codes "NotYet" else []
+kind_name Scope kind =
+    if kind == 1 then codes "Unknown"
+    else (if kind == 2 then codes "Twice"
+    else (if kind == 3 then codes "Arity"
+    else (if kind == 4 then codes "BadForm"
+    else (if kind == 5 then codes "EarlyGlobal"
+    else (if kind == 6 then codes "TooManyNodes"
+    else (if kind == 7 then codes "NotYet"
+    else []))))))
 
 abbrev pub source_line : Part → ℕ → ℕ → ℕ → List ℕ
 source_line part kind line column = codes "source " ++ decimal line ++ codes ":" ++ decimal column ++ codes " " ++ kind_name part kind ++ codes "\n"
@@ -42,19 +55,71 @@ abbrev pub not_read_line : Option (List ℕ) → List ℕ
 not_read_line None = []
 not_read_line (Some name) = cannot_read_line name
 
--- the line of an outcome with that status and detail, or nothing
-abbrev pub line_of : List (List ℕ) → ℕ → Detail → List ℕ
-line_of words status detail =
-    if status == 2 then usage_line
+-- the number and the name of a fault code
+abbrev pub code_number : Code → ℕ
+code_number code.WrongType = 1
+code_number code.DivideByZero = 2
+code_number code.Overflow = 3
+code_number code.Index = 4
+code_number code.NoTransaction = 5
+code_number code.NoTurn = 6
+code_number code.FutureEscapes = 7
+code_number code.ForkTooDeep = 8
+code_number code.TooDeep = 9
+code_number code.MessageArity = 10
+
+abbrev pub code_name : Code → List ℕ
+code_name code.WrongType = codes "WrongType"
+code_name code.DivideByZero = codes "DivideByZero"
+code_name code.Overflow = codes "Overflow"
+code_name code.Index = codes "Index"
+code_name code.NoTransaction = codes "NoTransaction"
+code_name code.NoTurn = codes "NoTurn"
+code_name code.FutureEscapes = codes "FutureEscapes"
+code_name code.ForkTooDeep = codes "ForkTooDeep"
+code_name code.TooDeep = codes "TooDeep"
+code_name code.MessageArity = codes "MessageArity"
+
+abbrev pub one_after_another : List (List ℕ) → List ℕ
+one_after_another pieces = flat_map (λ piece. piece) pieces
+
+abbrev pub fault_line : Code → ℕ → ℕ → List ℕ → List ℕ
+fault_line failed line column unit =
+    one_after_another (codes "fault " ∷ decimal (code_number failed) ∷ codes " " ∷ code_name failed ∷ codes " at " ∷ decimal line ∷ codes ":" ∷ decimal column
+    ∷ codes " in " ∷ name_text unit ∷ codes "\n" ∷ [])
+
+abbrev pub spent_line : List ℕ → List ℕ
+spent_line unit = one_after_another (codes "spent fuel in " ∷ name_text unit ∷ codes "\n" ∷ [])
+
+-- the line of an end
+abbrev pub end_line : End → List ℕ
+end_line end.Done = []
+end_line (end.Fault failed at unit) = fault_line failed at.line at.column unit
+end_line (end.Spent unit) = spent_line unit
+
+abbrev pub ended_line : Option End → List ℕ
+ended_line None = []
+ended_line (Some end) = end_line end
+
+-- the line of an outcome with that status, detail and end, or nothing
+abbrev pub line_of : List (List ℕ) → ℕ → Detail → Option End → List ℕ
+line_of words status detail end =
+    if status == 1 then ended_line end
+    else if status == 2 then usage_line
     else if status == 3 then not_read_line (file_of words)
     else if status == 4 then refused_line detail
+    else if status == 5 then ended_line end
     else if status == 6 then memory_line
     else []
+
+-- the line that was begun: where something was not written, it may be a front of the line of the end
+abbrev pub line_begun : List (List ℕ) → ℕ → Detail → Option End → List ℕ
+line_begun words status detail end = if status == 7 then ended_line end else line_of words status detail end
 
 -- the line where the file of that name gives no program
 abbrev pub load_line : List ℕ → LoadNo → List ℕ
 load_line name load.Failed = cannot_read_line name
 load_line name load.Absent = cannot_read_line name
 load_line name (load.Refused kind at) = refused_line (refused_as kind at)
-load_line name load.NotYet = refused_line not_yet
+load_line name (load.OutOfScope kind at) = refused_line (out_of_scope kind at)
 load_line name load.Memory = memory_line

@@ -1,10 +1,16 @@
-ghost use Rattle.std.specs.Prelude.{◌≡◌, ◌≤◌, flat_map};
-ghost use Rattle.world_io.specs.Taken.{TookPrefix, Said};
-ghost use Rattle.chocola.specs.Lines.{usage_line, cannot_read_line, memory_line, refused_line, source_line, kind_name};
+ghost use Rattle.std.specs.Prelude.{◌≡◌, ◌≤◌, flat_map, IfOk, OnOk};
+ghost use Rattle.std.specs.Io.KnownBytes.{append_known};
+ghost use Rattle.world_io.specs.Taken.{CountsWrite, TookPrefix, Said};
+ghost use Rattle.chocola.specs.Check.{check_line, count_line};
+ghost use Rattle.chocola.specs.Lines.{usage_line, cannot_read_line, memory_line, refused_line, source_line, kind_name, code_name, code_number, end_line, fault_line};
 
 use crate::outcome::{Detail, Part};
+use core_syntax::Program;
 use itoa::Buffer;
-use world_io::{Sink, write_all};
+use serial_model::End;
+use std::alloc::{AllocError, Global};
+use value_core::{Code, Name};
+use world_io::{Failed, Sink, write_all};
 
 /// Says that the words are refused.
 pub fn say_usage<E: Sink>(err: &mut E)
@@ -71,17 +77,166 @@ fn say_source<E: Sink>(err: &mut E, part: Part, kind: u8, line: u64, column: u64
     );
 }
 
-/// Writes the pieces, one after the other, up to the first that fails.
+/// Writes how many functions, behaviours and globals the program has. `Failed` comes only where the count of the sink's
+/// faults rose.
+pub fn write_counts<K: Sink>(out: &mut K, program: &Program) -> Result<(), Failed>
+    ensures whole { OnOk result (K.taken out.new ≡ append_known (K.taken out.old) (check_line program.now)) }
+    ensures prefix { TookPrefix (K.taken out.old) (K.taken out.new) (check_line program.now) }
+    ensures said { Said (K.taken out.old) (K.taken out.new) (K.faults out.old) (K.faults out.new) (check_line program.now) }
+    ensures counts { CountsWrite result (K.faults out.old) (K.faults out.new) }
+    ensures later { K.faults out.old ≤ K.faults out.new }
+{
+    write_numbers(
+        out,
+        program.functions(),
+        program.behaviours(),
+        program.globals(),
+    )
+}
+
+/// Writes the line of so many functions, behaviours and globals.
+fn write_numbers<K: Sink>(
+    out: &mut K,
+    functions: u32,
+    behaviours: u32,
+    globals: u32,
+) -> Result<(), Failed>
+    ensures whole { OnOk result (K.taken out.new ≡ append_known (K.taken out.old) (count_line functions behaviours globals)) }
+    ensures prefix { TookPrefix (K.taken out.old) (K.taken out.new) (count_line functions behaviours globals) }
+    ensures said { Said (K.taken out.old) (K.taken out.new) (K.faults out.old) (K.faults out.new) (count_line functions behaviours globals) }
+    ensures counts { CountsWrite result (K.faults out.old) (K.faults out.new) }
+    ensures later { K.faults out.old ≤ K.faults out.new }
+{
+    let mut function_digits = Buffer::new();
+    let mut behaviour_digits = Buffer::new();
+    let mut global_digits = Buffer::new();
+    write_pieces(
+        out,
+        &[
+            b"ok ",
+            function_digits.format(functions).as_bytes(),
+            b" functions ",
+            behaviour_digits.format(behaviours).as_bytes(),
+            b" behaviours ",
+            global_digits.format(globals).as_bytes(),
+            b" globals\n",
+        ],
+    )
+}
+
+/// Says the pieces, one after the other.
 fn say<E: Sink>(err: &mut E, pieces: &[&[u8]])
     ensures prefix { TookPrefix (E.taken err.old) (E.taken err.new) (flat_map (λ piece. piece.now) pieces.now) }
     ensures said { Said (E.taken err.old) (E.taken err.new) (E.faults err.old) (E.faults err.new) (flat_map (λ piece. piece.now) pieces.now) }
     ensures later { E.faults err.old ≤ E.faults err.new }
 {
+    let _ = write_pieces(err, pieces);
+}
+
+/// Writes the pieces, one after the other, up to the first that fails. `Failed` comes only where the count of the sink's
+/// faults rose.
+fn write_pieces<K: Sink>(sink: &mut K, pieces: &[&[u8]]) -> Result<(), Failed>
+    ensures whole { OnOk result (K.taken sink.new ≡ append_known (K.taken sink.old) (flat_map (λ piece. piece.now) pieces.now)) }
+    ensures prefix { TookPrefix (K.taken sink.old) (K.taken sink.new) (flat_map (λ piece. piece.now) pieces.now) }
+    ensures said { Said (K.taken sink.old) (K.taken sink.new) (K.faults sink.old) (K.faults sink.new) (flat_map (λ piece. piece.now) pieces.now) }
+    ensures counts { CountsWrite result (K.faults sink.old) (K.faults sink.new) }
+    ensures later { K.faults sink.old ≤ K.faults sink.new }
+{
     for piece in pieces {
-        match write_all(piece, err) {
-            Ok(()) => {}
-            Err(_) => return,
+        write_all(piece, sink)?;
+    }
+    Ok(())
+}
+
+/// The line of an end: nothing where all is done.
+pub fn end_line(alloc: Global, end: &End) -> Result<Vec<u8>, AllocError>
+    ensures { IfOk result (λ line. line.items ≡ end_line end.now) }
+{
+    match end {
+        End::Done => Ok(Vec::new(alloc)),
+        End::Fault { code, at, unit } => fault_line(alloc, *code, at.line(), at.column(), unit),
+        End::Spent { unit } => {
+            let unit = unit.text(alloc)?;
+            joined(alloc, &[b"spent fuel in ", unit.items(), b"\n"])
         }
+    }
+}
+
+/// The line of a fault of that unit, at that line and column.
+fn fault_line(
+    alloc: Global,
+    code: Code,
+    line: u32,
+    column: u32,
+    unit: &Name,
+) -> Result<Vec<u8>, AllocError>
+    ensures { IfOk result (λ text. text.items ≡ fault_line code line column unit.now) }
+{
+    let unit = unit.text(alloc)?;
+    let mut code_digits = Buffer::new();
+    let mut line_digits = Buffer::new();
+    let mut column_digits = Buffer::new();
+    joined(
+        alloc,
+        &[
+            b"fault ",
+            code_digits.format(code_number(code)).as_bytes(),
+            b" ",
+            code_name(code).as_bytes(),
+            b" at ",
+            line_digits.format(line).as_bytes(),
+            b":",
+            column_digits.format(column).as_bytes(),
+            b" in ",
+            unit.items(),
+            b"\n",
+        ],
+    )
+}
+
+/// The pieces, one after the other.
+fn joined(alloc: Global, pieces: &[&[u8]]) -> Result<Vec<u8>, AllocError>
+    ensures { IfOk result (λ text. text.items ≡ flat_map (λ piece. piece.now) pieces.now) }
+{
+    let mut text = Vec::new(alloc);
+    for piece in pieces {
+        text.extend_from_slice(piece)?;
+    }
+    Ok(text)
+}
+
+/// The number of a fault code.
+fn code_number(code: Code) -> u8
+    ensures { result ≡ code_number code }
+{
+    match code {
+        Code::WrongType => 1,
+        Code::DivideByZero => 2,
+        Code::Overflow => 3,
+        Code::Index => 4,
+        Code::NoTransaction => 5,
+        Code::NoTurn => 6,
+        Code::FutureEscapes => 7,
+        Code::ForkTooDeep => 8,
+        Code::TooDeep => 9,
+        Code::MessageArity => 10,
+    }
+}
+
+fn code_name(code: Code) -> &'static str
+    ensures { result.now ≡ code_name code }
+{
+    match code {
+        Code::WrongType => "WrongType",
+        Code::DivideByZero => "DivideByZero",
+        Code::Overflow => "Overflow",
+        Code::Index => "Index",
+        Code::NoTransaction => "NoTransaction",
+        Code::NoTurn => "NoTurn",
+        Code::FutureEscapes => "FutureEscapes",
+        Code::ForkTooDeep => "ForkTooDeep",
+        Code::TooDeep => "TooDeep",
+        Code::MessageArity => "MessageArity",
     }
 }
 
@@ -113,5 +268,14 @@ fn text_kind_name(kind: u8) -> &'static str
 fn scope_kind_name(kind: u8) -> &'static str
     ensures { result.now ≡ kind_name Part.Scope kind }
 {
-    if kind == 7 { "NotYet" } else { "" }
+    match kind {
+        1 => "Unknown",
+        2 => "Twice",
+        3 => "Arity",
+        4 => "BadForm",
+        5 => "EarlyGlobal",
+        6 => "TooManyNodes",
+        7 => "NotYet",
+        _ => "",
+    }
 }

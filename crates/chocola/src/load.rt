@@ -1,12 +1,12 @@
-ghost use Rattle.std.specs.Prelude.{◌≡◌, ◌≤◌, ℤ, List, Option, IfOk};
-ghost use Rattle.std.specs.Option.{option_map};
+ghost use Rattle.std.specs.Prelude.{◌≡◌, ◌≤◌};
 ghost use Rattle.sexpr_reader.specs.Cursor.{start};
 ghost use Rattle.world_io.specs.Held.{told};
-ghost use Rattle.chocola.specs.Program.{printed, program_of};
-ghost use Rattle.chocola.specs.Load.{Loads, Gives, load_error};
+ghost use Rattle.chocola.specs.Load.{Loads, Gives, load_error, scope_error};
 
-use sexpr_reader::{Form, FormKind, ReadKind, ReadNo, SOURCE_LIMIT, read};
-use std::alloc::{AllocError, Global};
+use core_syntax::Program;
+use scope_check::{ScopeKind, ScopeNo, check};
+use sexpr_reader::{Forms, ReadKind, ReadNo, SOURCE_LIMIT, read};
+use std::alloc::Global;
 use thiserror::Error;
 use value_core::{Place, Text};
 use world_io::{FileNo, Files};
@@ -23,18 +23,17 @@ pub enum LoadNo {
     /// The source is refused, with the kind of the refusal and its place.
     #[error("the source is refused")]
     Refused { kind: ReadKind, at: Place },
-    /// A form of the source is not built yet.
-    #[error("not built yet")]
-    NotYet,
+    /// The forms of the source are refused, with the kind of the refusal and its place.
+    #[error("the forms of the source are refused")]
+    OutOfScope { kind: ScopeKind, at: Place },
     /// There is no memory.
     #[error("out of memory")]
     Memory,
 }
 
-/// Reads the program of the file under that name.
-pub fn load<F: Files>(alloc: Global, files: &mut F, name: &Text) -> Result<Vec<i64>, LoadNo>
-    ensures loads { Loads (λ program. program.items) (told (F.held files.old) name.now)
-        (F.read_faults files.old) (F.read_faults files.new) result }
+/// The program of the file under that name: its source is read, and the forms are checked.
+pub fn load<F: Files>(alloc: Global, files: &mut F, name: &Text) -> Result<Program, LoadNo>
+    ensures loads { Loads (told (F.held files.old) name.now) (F.read_faults files.old) (F.read_faults files.new) result }
     ensures later { F.read_faults files.old ≤ F.read_faults files.new }
     ensures writes { F.write_faults files.new ≡ F.write_faults files.old }
     ensures same { F.held files.new ≡ F.held files.old }
@@ -47,19 +46,18 @@ pub fn load<F: Files>(alloc: Global, files: &mut F, name: &Text) -> Result<Vec<i
         Err(FileNo::Memory) => return Err(LoadNo::Memory),
     };
     match read(alloc, bytes.as_slice()) {
-        Ok(forms) => program(alloc, forms.items()),
+        Ok(forms) => checked(alloc, &forms),
         Err(error) => Err(load_error(error)),
     }
 }
 
 /// The program of the forms.
-fn program(alloc: Global, forms: &[Form]) -> Result<Vec<i64>, LoadNo>
-    ensures { Gives (λ program. program.items) (program_of forms.now) result }
+fn checked(alloc: Global, forms: &Forms) -> Result<Program, LoadNo>
+    ensures { Gives forms.now result }
 {
-    match integers(alloc, forms) {
-        Ok(Some(program)) => Ok(program),
-        Ok(None) => Err(LoadNo::NotYet),
-        Err(_) => Err(LoadNo::Memory),
+    match check(alloc, forms) {
+        Ok(program) => Ok(program),
+        Err(error) => Err(scope_error(error)),
     }
 }
 
@@ -72,43 +70,20 @@ fn load_error(error: ReadNo) -> LoadNo
     }
 }
 
+fn scope_error(error: ScopeNo) -> LoadNo
+    ensures { result ≡ scope_error error }
+{
+    match error {
+        ScopeNo::Refused { kind, at } => LoadNo::OutOfScope { kind, at },
+        ScopeNo::Memory => LoadNo::Memory,
+    }
+}
+
 fn too_long() -> LoadNo
     ensures { result ≡ LoadNo.Refused ReadKind.TooLong start }
 {
     LoadNo::Refused {
         kind: ReadKind::TooLong,
         at: Place::new(1, 1),
-    }
-}
-
-/// The integers that the forms print, where each form prints one.
-fn integers(alloc: Global, forms: &[Form]) -> Result<Option<Vec<i64>>, AllocError>
-    ensures { IfOk result (λ found. program_of forms.now ≡ option_map (λ program. program.items) found) }
-{
-    let mut program = Vec::new(alloc);
-    for form in forms {
-        match printed(form) {
-            Some(n) => program.push(n)?,
-            None => return Ok(None),
-        }
-    }
-    Ok(Some(program))
-}
-
-/// The integer of a form `(println INT)`.
-fn printed(form: &Form) -> Option<i64>
-    ensures { result ≡ printed form.now }
-{
-    let FormKind::List(parts) = &form.kind else {
-        return None;
-    };
-    let [name, number] = parts.items() else {
-        return None;
-    };
-    match (&name.kind, &number.kind) {
-        (FormKind::Sym(word), FormKind::Int(n)) if word.items() == b"println".as_slice() => Some(
-            *n,
-        ),
-        _ => None,
     }
 }

@@ -4,6 +4,7 @@
 mod lines;
 mod load;
 mod outcome;
+mod program;
 mod run;
 mod top;
 mod words;

@@ -1,6 +1,7 @@
 ghost use Rattle.std.specs.Prelude.{◌≡◌, [], None};
-ghost use Rattle.chocola.specs.Outcome.{kind_number};
+ghost use Rattle.chocola.specs.Outcome.{kind_number, scope_kind_number};
 
+use scope_check::ScopeKind;
 use serial_model::{End, History};
 use sexpr_reader::ReadKind;
 use std::alloc::Global;
@@ -41,7 +42,7 @@ pub enum Part {
 }
 
 impl Detail {
-    ghost use Rattle.chocola.specs.Outcome.{refused_as, not_yet};
+    ghost use Rattle.chocola.specs.Outcome.{refused_as, out_of_scope, not_yet};
 
     /// The source is refused with that kind at that place.
     pub fn refused(kind: ReadKind, at: Place) -> Self
@@ -50,6 +51,18 @@ impl Detail {
         Detail::Refused {
             part: Part::Source,
             kind: kind_number(kind),
+            line: u64::from(at.line()),
+            column: u64::from(at.column()),
+        }
+    }
+
+    /// The forms of the source are refused with that kind at that place.
+    pub fn out_of_scope(kind: ScopeKind, at: Place) -> Self
+        ensures { result ≡ out_of_scope kind at }
+    {
+        Detail::Refused {
+            part: Part::Scope,
+            kind: scope_kind_number(kind),
             line: u64::from(at.line()),
             column: u64::from(at.column()),
         }
@@ -79,6 +92,19 @@ fn kind_number(kind: ReadKind) -> u8
         ReadKind::BadString => 5,
         ReadKind::TooNested => 6,
         ReadKind::TooLong => 7,
+    }
+}
+
+fn scope_kind_number(kind: ScopeKind) -> u8
+    ensures { result ≡ scope_kind_number kind }
+{
+    match kind {
+        ScopeKind::Unknown => 1,
+        ScopeKind::Twice => 2,
+        ScopeKind::Arity => 3,
+        ScopeKind::BadForm => 4,
+        ScopeKind::EarlyGlobal => 5,
+        ScopeKind::TooManyNodes => 6,
     }
 }
 

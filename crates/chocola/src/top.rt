@@ -1,22 +1,31 @@
-ghost use Rattle.std.specs.Prelude.{◌≡◌, ◌≢◌, ◌≤◌, ◌<◌, ◌↔◌, ◌⊎◌, ℕ, List, [], map, None, IsSome};
+ghost use Rattle.std.specs.Prelude.{◌≡◌, ◌≢◌, ◌≤◌, ◌<◌, ◌↔◌, ◌⊎◌, ℕ, false, true, List, [], map, None, Some, IsSome, IfSome};
 ghost use Rattle.std.specs.String.{string_bytes};
-ghost use Rattle.serial_model.specs.Eval.{Program};
 ghost use Rattle.sexpr_reader.specs.declared.error.ReadKind.{ReadKind};
-ghost use Rattle.sexpr_reader.specs.Grammar.{IsRefused};
+ghost use Rattle.sexpr_reader.specs.declared.form.Form.{Form as SourceForm};
+ghost use Rattle.sexpr_reader.specs.Grammar.{IsRefused, IsSource};
+ghost use Rattle.core_syntax.specs.Table.{Table};
+ghost use Rattle.scope_check.specs.declared.error.ScopeKind.{ScopeKind};
+ghost use Rattle.scope_check.specs.Check.{IsProgram, IsRefused as IsScopeRefused};
 ghost use Rattle.value_core.specs.Place.{Spot};
 ghost use Rattle.world_io.specs.Counts.{Rose};
 ghost use Rattle.world_io.specs.Taken.{TookPrefix, Said};
-ghost use Rattle.chocola.specs.Words.{file_of};
-ghost use Rattle.chocola.specs.Lines.{cannot_read_line, line_of, load_line, memory_line, refused_line};
-ghost use Rattle.chocola.specs.Program.{IsProgramOf, IsNotYet};
+ghost use Rattle.chocola.specs.Words.{command_of, file_of};
+ghost use Rattle.chocola.specs.Check.{check_line};
+ghost use Rattle.chocola.specs.Written.{IsWritten};
+ghost use Rattle.serial_model.specs.Replay.{status};
+ghost use Rattle.chocola.specs.Lines.{cannot_read_line, end_line, ended_line, line_begun, line_of, load_line, memory_line, refused_line};
+ghost use Rattle.chocola.specs.Program.{IsProgramOf, IsNotYet, waits};
 ghost use Rattle.std.specs.Io.KnownBytes.{append_known};
-ghost use Rattle.chocola.specs.Outcome.{IsStatus, IsEnded, IsWritten, load_status, load_detail, IsWithoutRun, IsMissing, IsGiven, IsRefusedRun, IsNotYetRun, Finished, IsRun, IsIdle, refused_as, not_yet};
+ghost use Rattle.chocola.specs.Outcome.{IsStatus, IsEnded, load_status, load_detail, IsStatusOfEnd, IsWithoutRun, IsMissing, IsGiven, IsRefusedRun, IsOutOfScope, IsNotYetRun, Finished, IsRun, IsChecked, IsIdle, refused_as, out_of_scope, not_yet};
 
-use crate::lines::{say_memory, say_not_read, say_refused, say_usage};
+use crate::lines::{end_line, say_memory, say_not_read, say_refused, say_usage, write_counts};
 use crate::load::{LoadNo, load};
 use crate::outcome::{Detail, Outcome};
+use crate::program::waits;
 use crate::run::{Ran, run};
-use crate::words::file_word;
+use crate::words::{Command, request};
+use core_syntax::Program;
+use serial_model::End;
 use std::alloc::Global;
 use value_core::Text;
 use world_io::{Files, Sink, write_all};
@@ -32,14 +41,23 @@ pub fn chocola<F: Files, K: Sink + Send, E: Sink>(
     ensures statuses { IsStatus result.status }
 
     // The run: the serializability theorem, for what it answers.
-    ensures run { IsEnded result.status → IsRun (map string_bytes words.now) (F.held files.old)
+    ensures run { IsEnded result.status → command_of (map string_bytes words.now) ≡ Some Command.Run → IsRun (map string_bytes words.now) (F.held files.old)
         (K.taken out.old) (K.taken out.new) (K.faults out.old) (K.faults out.new) result }
-    ensures ended { IsEnded result.status → IsSome result.end }
+    ensures ended { IsEnded result.status → command_of (map string_bytes words.now) ≡ Some Command.Run → IsSome result.end }
     ensures unless_memory { result.status ≡ 6 → IsIdle (K.taken out.old) (K.taken out.new) result
         ⊎ IsRun (map string_bytes words.now) (F.held files.old)
         (K.taken out.old) (K.taken out.new) (K.faults out.old) (K.faults out.new) result }
-    ensures complete { (bytes : List ℕ) (program : Program) → IsGiven (map string_bytes words.now) (F.held files.old) bytes
-        → IsProgramOf bytes program → (Rose (F.read_faults files.old) (F.read_faults files.new) → ⊥)
+    ensures complete { (bytes : List ℕ) (program : Table) → command_of (map string_bytes words.now) ≡ Some Command.Run → IsGiven (map string_bytes words.now) (F.held files.old) bytes
+        → IsProgramOf bytes program → waits program ≡ false → (Rose (F.read_faults files.old) (F.read_faults files.new) → ⊥)
+        → (Rose (K.faults out.old) (K.faults out.new) → ⊥) → (Rose (E.faults err.old) (E.faults err.new) → ⊥)
+        → IsStatusOfEnd result ⊎ (result.status ≡ 6) }
+
+    // The check.
+    ensures checked { IsEnded result.status → command_of (map string_bytes words.now) ≡ Some Command.Check → IsChecked (map string_bytes words.now)
+        (F.held files.old) (K.taken out.old) (K.taken out.new) (K.faults out.old) (K.faults out.new) result }
+    ensures check_complete { (bytes : List ℕ) (forms : List SourceForm) (table : Table) → command_of (map string_bytes words.now) ≡ Some Command.Check
+        → IsGiven (map string_bytes words.now) (F.held files.old) bytes → IsSource bytes forms → IsProgram forms table
+        → (Rose (F.read_faults files.old) (F.read_faults files.new) → ⊥)
         → (Rose (K.faults out.old) (K.faults out.new) → ⊥) → (result.status ≡ 0) ⊎ (result.status ≡ 6) }
 
     // The causes of the other statuses.
@@ -48,11 +66,16 @@ pub fn chocola<F: Files, K: Sink + Send, E: Sink>(
         ⊎ IsMissing (map string_bytes words.now) (F.held files.old) }
     ensures missing { IsMissing (map string_bytes words.now) (F.held files.old) → (result.status ≡ 3) ⊎ (result.status ≡ 6) }
     ensures refused { result.status ≡ 4 → IsRefusedRun (map string_bytes words.now) (F.held files.old) result.detail
-        ⊎ IsNotYetRun (map string_bytes words.now) (F.held files.old) result.detail }
+        ⊎ (IsOutOfScope (map string_bytes words.now) (F.held files.old) result.detail
+        ⊎ IsNotYetRun (map string_bytes words.now) (F.held files.old) result.detail) }
     ensures must_refuse { (bytes : List ℕ) (kind : ReadKind) (at : Spot) → IsGiven (map string_bytes words.now) (F.held files.old) bytes
         → IsRefused bytes kind at → (Rose (F.read_faults files.old) (F.read_faults files.new) → ⊥)
         → ((result.status ≡ 4) × (result.detail ≡ refused_as kind at)) ⊎ (result.status ≡ 6) }
-    ensures must_wait { (bytes : List ℕ) → IsGiven (map string_bytes words.now) (F.held files.old) bytes
+    ensures must_refuse_scope { (bytes : List ℕ) (forms : List SourceForm) (kind : ScopeKind) (at : Spot)
+        → IsGiven (map string_bytes words.now) (F.held files.old) bytes → IsSource bytes forms → IsScopeRefused forms kind at
+        → (Rose (F.read_faults files.old) (F.read_faults files.new) → ⊥)
+        → ((result.status ≡ 4) × (result.detail ≡ out_of_scope kind at)) ⊎ (result.status ≡ 6) }
+    ensures must_wait { (bytes : List ℕ) → command_of (map string_bytes words.now) ≡ Some Command.Run → IsGiven (map string_bytes words.now) (F.held files.old) bytes
         → IsNotYet bytes → (Rose (F.read_faults files.old) (F.read_faults files.new) → ⊥)
         → ((result.status ≡ 4) × (result.detail ≡ not_yet)) ⊎ (result.status ≡ 6) }
     ensures not_written { result.status ≡ 7 → Rose (K.faults out.old) (K.faults out.new) ⊎ Rose (E.faults err.old) (E.faults err.new) }
@@ -61,16 +84,16 @@ pub fn chocola<F: Files, K: Sink + Send, E: Sink>(
     ensures idle { IsWithoutRun result.status → IsIdle (K.taken out.old) (K.taken out.new) result }
     ensures detail { result.status ≢ 4 → result.detail ≡ Detail.Nothing }
     ensures said { Said (E.taken err.old) (E.taken err.new) (E.faults err.old) (E.faults err.new)
-        (line_of (map string_bytes words.now) result.status result.detail) }
+        (line_of (map string_bytes words.now) result.status result.detail result.end) }
     ensures said_at_most { TookPrefix (E.taken err.old) (E.taken err.new)
-        (line_of (map string_bytes words.now) result.status result.detail) }
+        (line_begun (map string_bytes words.now) result.status result.detail result.end) }
     ensures files_stay { F.held files.new ≡ F.held files.old }
     ensures no_writes { F.write_faults files.new ≡ F.write_faults files.old }
     ensures read_faults_later { F.read_faults files.old ≤ F.read_faults files.new }
     ensures out_faults_later { K.faults out.old ≤ K.faults out.new }
     ensures err_faults_later { E.faults err.old ≤ E.faults err.new }
 {
-    let Some(file) = file_word(words) else {
+    let Some((command, file)) = request(words) else {
         say_usage(err);
         return Outcome::without_run(alloc, 2, Detail::Nothing);
     };
@@ -78,34 +101,64 @@ pub fn chocola<F: Files, K: Sink + Send, E: Sink>(
         return out_of_memory(alloc, err);
     };
     match load(alloc, files, &name) {
-        Ok(program) => run_program(alloc, program.as_slice(), out, err),
+        Ok(program) => match command {
+            Command::Run => run_program(alloc, &program, out, err),
+            Command::Check => tell_counts(alloc, &program, out),
+        },
         Err(error) => without_program(alloc, error, file.as_bytes(), err),
     }
 }
 
-/// Runs the program, and writes what it printed.
+/// Tells how many functions, behaviours and globals the program has.
+fn tell_counts<K: Sink>(alloc: Global, program: &Program, out: &mut K) -> Outcome
+    ensures status { (result.status ≡ 0) ⊎ (result.status ≡ 7) }
+    ensures prefix { TookPrefix (K.taken out.old) (K.taken out.new) (check_line program.now) }
+    ensures whole { IsWritten result.status (K.faults out.old) (K.faults out.new)
+        → K.taken out.new ≡ append_known (K.taken out.old) (check_line program.now) }
+    ensures fault { result.status ≡ 7 → Rose (K.faults out.old) (K.faults out.new) }
+    ensures history { result.history.items ≡ [] }
+    ensures end { result.end ≡ None }
+    ensures detail { result.detail ≡ Detail.Nothing }
+    ensures later { K.faults out.old ≤ K.faults out.new }
+{
+    let status = match write_counts(out, program) {
+        Ok(()) => 0,
+        Err(_) => 7,
+    };
+    Outcome::without_run(alloc, status, Detail::Nothing)
+}
+
+/// Runs the program, where each node of it is built, and writes what it printed and the line of its end.
 fn run_program<K: Sink + Send, E: Sink>(
     alloc: Global,
-    program: &[i64],
+    program: &Program,
     out: &mut K,
     err: &mut E,
 ) -> Outcome
-    ensures statuses { IsEnded result.status ⊎ (result.status ≡ 6) }
-    ensures finished { Finished program.now (K.taken out.old) (K.taken out.new) (K.faults out.old) (K.faults out.new) result }
+    ensures statuses { IsEnded result.status ⊎ ((result.status ≡ 4) ⊎ (result.status ≡ 6)) }
+    ensures run { IsEnded result.status → (waits program.now ≡ false) × Finished program.now (K.taken out.old) (K.taken out.new) (K.faults out.old) (K.faults out.new) result }
     ensures ended { IsEnded result.status → IsSome result.end }
-    ensures not_written { result.status ≡ 7 → Rose (K.faults out.old) (K.faults out.new) }
-    ensures detail { result.detail ≡ Detail.Nothing }
-    ensures said { Said (E.taken err.old) (E.taken err.new) (E.faults err.old) (E.faults err.new) (line_of [] result.status result.detail) }
-    ensures said_at_most { TookPrefix (E.taken err.old) (E.taken err.new) (line_of [] result.status result.detail) }
+    ensures unless_memory { result.status ≡ 6 → IsIdle (K.taken out.old) (K.taken out.new) result
+        ⊎ ((waits program.now ≡ false) × Finished program.now (K.taken out.old) (K.taken out.new) (K.faults out.old) (K.faults out.new) result) }
+    ensures refused { result.status ≡ 4 → (waits program.now ≡ true) × (result.detail ≡ not_yet) }
+    ensures must_wait { waits program.now ≡ true → ((result.status ≡ 4) × (result.detail ≡ not_yet)) ⊎ (result.status ≡ 6) }
+    ensures not_written { result.status ≡ 7 → Rose (K.faults out.old) (K.faults out.new) ⊎ Rose (E.faults err.old) (E.faults err.new) }
+    ensures idle { result.status ≡ 4 → IsIdle (K.taken out.old) (K.taken out.new) result }
+    ensures detail { result.status ≢ 4 → result.detail ≡ Detail.Nothing }
+    ensures said { Said (E.taken err.old) (E.taken err.new) (E.faults err.old) (E.faults err.new) (line_of [] result.status result.detail result.end) }
+    ensures said_at_most { TookPrefix (E.taken err.old) (E.taken err.new) (line_begun [] result.status result.detail result.end) }
     ensures out_later { K.faults out.old ≤ K.faults out.new }
     ensures err_later { E.faults err.old ≤ E.faults err.new }
 {
+    if waits(program) {
+        return refuse(alloc, Detail::not_yet(), err);
+    }
     let Ran {
         history,
         output,
         end,
     } = run(alloc, program);
-    let Some(end) = end else {
+    let Some((end, line)) = with_line(alloc, end) else {
         say_memory(err);
         return Outcome {
             status: 6,
@@ -114,26 +167,56 @@ fn run_program<K: Sink + Send, E: Sink>(
             detail: Detail::Nothing,
         };
     };
+    let status = report(&end, output.as_slice(), line.as_slice(), out, err);
     Outcome {
-        status: write_out(output.as_slice(), out),
+        status,
         history,
         end: Some(end),
         detail: Detail::Nothing,
     }
 }
 
-/// Writes what a run printed, and answers the status that this leaves.
-fn write_out<K: Sink>(output: &[u8], out: &mut K) -> u8
+/// The end with its line, where there is an end and memory for the line.
+fn with_line(alloc: Global, end: Option<End>) -> Option<(End, Vec<u8>)>
+    ensures end { IfSome result (λ both. end ≡ Some both.0) }
+    ensures line { IfSome result (λ both. both.1.items ≡ end_line both.0) }
+{
+    let end = end?;
+    let line = end_line(alloc, &end).ok()?;
+    Some((end, line))
+}
+
+/// Writes what a run printed and then the line of its end, and answers the status that this leaves.
+fn report<K: Sink, E: Sink>(end: &End, output: &[u8], line: &[u8], out: &mut K, err: &mut E) -> u8
+    requires { line.now ≡ end_line end.now }
     ensures status { IsEnded result }
+    ensures of_end { result ≢ 7 → status end.now ≡ result }
     ensures prefix { TookPrefix (K.taken out.old) (K.taken out.new) output.now }
     ensures whole { IsWritten result (K.faults out.old) (K.faults out.new)
         → K.taken out.new ≡ append_known (K.taken out.old) output.now }
-    ensures fault { result ≡ 7 → Rose (K.faults out.old) (K.faults out.new) }
-    ensures later { K.faults out.old ≤ K.faults out.new }
+    ensures fault { result ≡ 7 → Rose (K.faults out.old) (K.faults out.new) ⊎ Rose (E.faults err.old) (E.faults err.new) }
+    ensures said { Said (E.taken err.old) (E.taken err.new) (E.faults err.old) (E.faults err.new) (line_of [] result Detail.Nothing (Some end.now)) }
+    ensures said_at_most { TookPrefix (E.taken err.old) (E.taken err.new) (end_line end.now) }
+    ensures out_later { K.faults out.old ≤ K.faults out.new }
+    ensures err_later { E.faults err.old ≤ E.faults err.new }
 {
     match write_all(output, out) {
-        Ok(()) => 0,
+        Ok(()) => match write_all(line, err) {
+            Ok(()) => end_status(end),
+            Err(_) => 7,
+        },
         Err(_) => 7,
+    }
+}
+
+/// The exit status of an end.
+fn end_status(end: &End) -> u8
+    ensures { result ≡ status end.now }
+{
+    match end {
+        End::Done => 0,
+        End::Fault { .. } => 1,
+        End::Spent { .. } => 5,
     }
 }
 
@@ -151,7 +234,7 @@ fn without_program<E: Sink>(alloc: Global, error: LoadNo, name: &[u8], err: &mut
         LoadNo::Failed => not_read(alloc, name, err),
         LoadNo::Absent => not_read(alloc, name, err),
         LoadNo::Refused { kind, at } => refuse(alloc, Detail::refused(kind, at), err),
-        LoadNo::NotYet => refuse(alloc, Detail::not_yet(), err),
+        LoadNo::OutOfScope { kind, at } => refuse(alloc, Detail::out_of_scope(kind, at), err),
         LoadNo::Memory => out_of_memory(alloc, err),
     }
 }

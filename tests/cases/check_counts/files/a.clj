@@ -1,0 +1,1 @@
+(defn a [] (b)) (defn b [] (a))

@@ -1,0 +1,3 @@
+(def a 1)
+(def b (+ a 1))
+(println b)

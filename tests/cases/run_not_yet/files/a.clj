@@ -1,0 +1,1 @@
+(println @(ref 1))
