@@ -87,6 +87,7 @@ pub fn chocola<F: Files, K: Sink + Send, E: Sink>(
         (line_of (map string_bytes words.now) result.status result.detail result.end) }
     ensures said_at_most { TookPrefix (E.taken err.old) (E.taken err.new)
         (line_begun (map string_bytes words.now) result.status result.detail result.end) }
+    ensures end_said { IsEnded result.status → result.status ≢ 7 → E.taken err.new ≡ append_known (E.taken err.old) (ended_line result.end) }
     ensures files_stay { F.held files.new ≡ F.held files.old }
     ensures no_writes { F.write_faults files.new ≡ F.write_faults files.old }
     ensures read_faults_later { F.read_faults files.old ≤ F.read_faults files.new }
@@ -147,6 +148,7 @@ fn run_program<K: Sink + Send, E: Sink>(
     ensures detail { result.status ≢ 4 → result.detail ≡ Detail.Nothing }
     ensures said { Said (E.taken err.old) (E.taken err.new) (E.faults err.old) (E.faults err.new) (line_of [] result.status result.detail result.end) }
     ensures said_at_most { TookPrefix (E.taken err.old) (E.taken err.new) (line_begun [] result.status result.detail result.end) }
+    ensures end_said { IsEnded result.status → result.status ≢ 7 → E.taken err.new ≡ append_known (E.taken err.old) (ended_line result.end) }
     ensures out_later { K.faults out.old ≤ K.faults out.new }
     ensures err_later { E.faults err.old ≤ E.faults err.new }
 {
@@ -197,6 +199,7 @@ fn report<K: Sink, E: Sink>(end: &End, output: &[u8], line: &[u8], out: &mut K, 
     ensures fault { result ≡ 7 → Rose (K.faults out.old) (K.faults out.new) ⊎ Rose (E.faults err.old) (E.faults err.new) }
     ensures said { Said (E.taken err.old) (E.taken err.new) (E.faults err.old) (E.faults err.new) (line_of [] result Detail.Nothing (Some end.now)) }
     ensures said_at_most { TookPrefix (E.taken err.old) (E.taken err.new) (end_line end.now) }
+    ensures end_said { result ≢ 7 → E.taken err.new ≡ append_known (E.taken err.old) (end_line end.now) }
     ensures out_later { K.faults out.old ≤ K.faults out.new }
     ensures err_later { E.faults err.old ≤ E.faults err.new }
 {
