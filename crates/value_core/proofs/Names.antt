@@ -2,13 +2,10 @@
 use Rattle.std.proofs.Common.{◌≡◌, ◌≢◌, ℕ, zero, suc, ◌+◌, ◌-◌, ◌*◌, ◌<◌, ◌≤◌, ◌^◌, min, Bool, true, false, List, [], ◌∷◌, ◌++◌, length, map, take, drop, get_or, All, refl, sym, ap, subst, ◌∙◌, arith, rules, Option, Some, None, cond, not, length-append, inl, inr, append_assoc, append-nil, add-one, drop-cons}
 use Rattle.std.specs.declared.cmp.Ordering.{Ordering}
 use Rattle.std.specs.declared.cmp.Ordering.TheVariants.{Less, Equal, Greater}
-use Rattle.std.specs.Ordering.{nat_cmp, ordering_then, flip_args, is_ne}
-use Rattle.std.specs.Cmp.{IsTotalOrder}
-use Rattle.std.specs.Cmp.Lexicographic.{slice_cmp}
+use Rattle.std.specs.Ordering.{nat_cmp, ordering_then, is_ne}
 use Rattle.std.specs.FinMap.{IsAntisymmetric, nat_cmp-IsAntisymmetric, slice_cmp-IsAntisymmetric}
 use Rattle.std.specs.Fmt.{decimal}
 use Rattle.std.specs.List.{join_with_byte, slice_split, onto_first, position, position_or_len}
-use Rattle.std.proofs.lemmas.Cmp.{lists_total, back_total, nat_cmp_total}
 use Rattle.std.proofs.lemmas.List.Splits.{slice_split_none, slice_split_at, slice_split_first, join_with_byte-slice_split}
 use borrow.Author.Tests.{ltb-true, ltb-false}
 use Rattle.std.proofs.lemmas.Bool.{cases_lt}
@@ -21,22 +18,10 @@ use Rattle.std.proofs.lemmas.Bool.Decides.{nat_tests}
 use Rattle.std.proofs.lemmas.List.Elements.{All-push}
 use Rattle.std.proofs.lemmas.List.{map-append, take_all, get_or_default}
 use Rattle.value_core.specs.Name.{after_cmp, name_text, IsTextOf}
+pub use Rattle.value_core.specs.NameOrder.{after_cmp_is, after_cmp_total}
 use Rattle.value_core.specs.NameText.{is_dot, read_on, WritesNumber}
 
 -- ---- after-order
--- it is the order of lists, by the greater number first and turned round
-after_cmp_is : (x y : List ℕ) → after_cmp x y ≡ flip_args (slice_cmp (flip_args nat_cmp)) x y
-after_cmp_is [] [] = refl
-after_cmp_is [] (y ∷ ys) = refl
-after_cmp_is (x ∷ xs) [] = refl
-after_cmp_is (x ∷ xs) (y ∷ ys) = ap (ordering_then (nat_cmp x y)) (after_cmp_is xs ys)
-
-same_function : after_cmp ≡ flip_args (slice_cmp (flip_args nat_cmp))
-same_function = λ i x y. after_cmp_is x y i
-
-pub after_cmp_total : IsTotalOrder after_cmp
-after_cmp_total = subst (λ (R : List ℕ → List ℕ → Ordering). IsTotalOrder R) (sym same_function) (back_total (lists_total (back_total nat_cmp_total)))
-
 pub after_cmp-IsAntisymmetric : IsAntisymmetric after_cmp
 after_cmp-IsAntisymmetric x y e =
     sym (slice_cmp-IsAntisymmetric (λ a b same. sym (nat_cmp-IsAntisymmetric b a same)) y x (sym (after_cmp_is x y) ∙ e))

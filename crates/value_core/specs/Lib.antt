@@ -3,8 +3,11 @@ pub mod formers
 pub mod Futures
 pub mod Key
 pub mod Name
+pub mod NameOrder
 pub mod NameText
 pub mod Pairs
 pub mod Place
 pub mod Roomy
+pub mod Structural
 pub mod ToKey
+pub mod Within

@@ -6,6 +6,7 @@ mod code;
 mod dict;
 mod key;
 mod name;
+mod name_order;
 mod op;
 mod pair;
 mod place;
