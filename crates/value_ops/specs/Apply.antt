@@ -10,7 +10,7 @@ use Rattle.value_core.specs.declared.value.Value.TheViews.{out-Value}
 use Rattle.value_core.specs.Depth.{depth_of}
 use Rattle.value_print.specs.Texts.{str_text}
 use Rattle.value_ops.specs.declared.op_fault.OpFault.{OpFault}
-use Rattle.value_ops.specs.declared.op_fault.OpFault.TheVariants.{WrongType, DivideByZero, Overflow, Index, TooDeep, Memory}
+use Rattle.value_ops.specs.declared.op_fault.OpFault.TheVariants.{WrongType, Index, TooDeep, Memory}
 use Rattle.value_ops.specs.Equality.{all_same}
 use Rattle.value_ops.specs.Ints.{on_ints, sum_rule, product_rule, difference_rule, increase_rule, extreme_rule, division_rule, int_mod, order_rule, test_rule}
 use Rattle.value_ops.specs.Kinds.{is_nil, is_bool, is_int, is_string, is_keyword, is_vector, is_map, is_false}

@@ -1,7 +1,6 @@
 use Rattle.std.proofs.Common.{sym, ap, ◌∙◌, rules, w64}
 use Rattle.std.proofs.lemmas.Int.{to_z-of_z}
 use mir.Val.{SFits}
-use Rattle.value_ops.specs.Kinds.{int_of}
 use Rattle.value_ops.specs.Parts.{placed}
 use Rattle.value_ops.proofs.EntrySteps.{place_done, place_stuck}
 use Rattle.value_ops.proofs.entries.place_entries.Goals as goal
