@@ -6,3 +6,4 @@ pub mod MemFiles
 pub mod MemSink
 pub mod Reads
 pub mod Taken
+pub mod Writes

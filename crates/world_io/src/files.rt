@@ -1,7 +1,8 @@
-ghost use Rattle.std.specs.Prelude.{◌≡◌, ◌≤◌, ◌<◌, ◌⊎◌, ℕ, List, Option, IfOk, IsOk, IsErrOf, vec_len, length};
-ghost use Rattle.world_io.specs.Held.{told, IsHeld, ExceedsLimit};
+ghost use Rattle.std.specs.Prelude.{◌≡◌, ◌≤◌, ◌<◌, ◌⊎◌, ℕ, List, Option, IfOk, OnOk, IsOk, IsErrOf, vec_len, length};
+ghost use Rattle.world_io.specs.Held.{told, IsHeld, IsSameBut, ExceedsLimit};
 ghost use Rattle.world_io.specs.declared.files.FileItem.{FileItem};
 ghost use Rattle.world_io.specs.Reads.{CountsRead, IsFree};
+ghost use Rattle.world_io.specs.Writes.{CountsFileWrite};
 
 use std::alloc::Global;
 use thiserror::Error;
@@ -37,7 +38,18 @@ pub enum FileNo {
     Memory,
 }
 
-/// Files that a program reads by their names. They hold bytes under names, where they tell that, and count the faults of
+/// Why a write was not done.
+#[derive(Clone, Copy, Debug, PartialEq, Eq, Error)]
+pub enum WriteNo {
+    /// The write failed, and was counted as a fault. What the name holds then is open.
+    #[error("the write failed")]
+    Failed,
+    /// There is no memory for the bytes. Nothing was written.
+    #[error("out of memory")]
+    Memory,
+}
+
+/// Files that a program reads and writes by their names. They hold bytes under names, where they tell that, and count the faults of
 /// reads and of writes, each in a count that never falls and stays at its last value.
 pub trait Files {
     /// What is held, where that is told.
@@ -71,4 +83,17 @@ pub trait Files {
         ensures later { read_faults self.old ≤ read_faults self.new }
         ensures writes { write_faults self.new ≡ write_faults self.old }
         ensures same { held self.new ≡ held self.old };
+
+    /// Puts the bytes under the name, in the place of those that are there. What other names hold stays. `Failed` comes
+    /// only where the count of write faults rose, and then it is open what the name holds; for want of memory nothing
+    /// changes. Whether it is told what is held stays as it was.
+    fn write(&mut self, alloc: Global, name: &Text, bytes: &[u8]) -> Result<(), WriteNo>
+        ensures written { OnOk result (IsHeld (told (held self.new) name.now) bytes.now) }
+        ensures others { IsSameBut name.now (held self.old) (held self.new) }
+        ensures memory { IsErrOf result WriteNo.Memory → held self.new ≡ held self.old }
+
+        // A failure raises the count of write faults, and no other answer does.
+        ensures faults { CountsFileWrite result (write_faults self.old) (write_faults self.new) }
+        ensures later { write_faults self.old ≤ write_faults self.new }
+        ensures reads { read_faults self.new ≡ read_faults self.old };
 }

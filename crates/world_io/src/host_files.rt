@@ -1,7 +1,7 @@
 ghost use Rattle.std.specs.Prelude.{◌≡◌, ◌≤◌, None, IfOk, IsErrOf, vec_len};
 
 use crate::counts::count_after_fault;
-use crate::files::{FileNo, Files};
+use crate::files::{FileNo, Files, WriteNo};
 use crate::reads::read_within;
 use std::alloc::Global;
 use std::marker::Model;
@@ -45,6 +45,13 @@ impl<'a, R: rt::Files + Drop> HostFiles<'a, R> {
         let mut file = fs::open(self.host, path).map_err(|_| FileNo::Failed)?;
         read_within(alloc, &mut file, limit)
     }
+
+    fn write_host(&self, name: &Text, bytes: &[u8]) -> Result<(), WriteNo>
+        ensures not_memory { IsErrOf result WriteNo.Memory → ⊥ }
+    {
+        let path = str::from_utf8(name.items()).map_err(|_| WriteNo::Failed)?;
+        fs::write(self.host, path, bytes).map_err(|_| WriteNo::Failed)
+    }
 }
 
 impl<'a, R: rt::Files + Drop> Files for HostFiles<'a, R> {
@@ -58,6 +65,14 @@ impl<'a, R: rt::Files + Drop> Files for HostFiles<'a, R> {
         let answer = self.read_host(alloc, name, limit);
         if let Err(FileNo::Failed) = answer {
             self.read_faults = count_after_fault(self.read_faults);
+        }
+        answer
+    }
+
+    fn write(&mut self, _alloc: Global, name: &Text, bytes: &[u8]) -> Result<(), WriteNo> {
+        let answer = self.write_host(name, bytes);
+        if answer.is_err() {
+            self.write_faults = count_after_fault(self.write_faults);
         }
         answer
     }

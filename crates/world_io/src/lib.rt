@@ -13,7 +13,7 @@ mod reads;
 mod sink;
 mod writes;
 
-pub use files::{CallList, FileItem, FileList, FileNo, Files};
+pub use files::{CallList, FileItem, FileList, FileNo, Files, WriteNo};
 pub use host_files::HostFiles;
 pub use host_stream::{HostErr, HostOut, HostStream};
 pub use mem_files::MemFiles;

@@ -1,14 +1,15 @@
-ghost use Rattle.std.specs.Prelude.{◌≡◌, ◌≤◌, ◌<◌, ◌⊎◌, ◌↔◌, ℕ, List, Option, Some, None, IfOk, IsOk, IsErrOf, vec_len, length};
+ghost use Rattle.std.specs.Prelude.{◌≡◌, ◌≢◌, ◌≤◌, ◌<◌, ◌⊎◌, ◌↔◌, ℕ, List, [], ◌∷◌, ◌++◌, Option, Some, None, position, IfOk, IfErr, OnOk, IsOk, IsErr, IsErrOf, vec_len, length};
 ghost use Rattle.std.specs.Option.{option_copied};
+ghost use Rattle.std.specs.Str.{bytes_eq};
 ghost use Rattle.world_io.specs.Held.{file_under, told, IsHeld, ExceedsLimit};
 ghost use Rattle.world_io.specs.FailPlan.{first_plan, plan_after, IsListed};
-ghost use Rattle.world_io.specs.MemFiles.{faults_after};
+ghost use Rattle.world_io.specs.MemFiles.{faults_after, faults_after_write};
 ghost use Rattle.world_io.specs.Reads.{CountsRead, IsFree};
 
 use crate::counts::count_after_fault;
 use crate::fail_plan::FailPlan;
-use crate::files::{CallList, FileItem, FileList, FileNo, Files};
-use std::alloc::Global;
+use crate::files::{CallList, FileItem, FileList, FileNo, Files, WriteNo};
+use std::alloc::{AllocError, Global};
 use std::marker::Model;
 use value_core::Text;
 
@@ -18,6 +19,7 @@ pub struct MemFiles {
     held: FileList,
     plan: FailPlan,
     read_faults: u64,
+    write_faults: u64,
 }
 
 impl Model for MemFiles {
@@ -25,18 +27,19 @@ impl Model for MemFiles {
 
     ghost Value = { FilesInMemory };
 
-    ghost view = { λ f. record { held = f.held; plan = f.plan; read_faults = f.read_faults } };
+    ghost view = { λ f. record { held = f.held; plan = f.plan; read_faults = f.read_faults; write_faults = f.write_faults } };
 }
 
 impl MemFiles {
     /// Files that hold these, of which the calls with these numbers, from 0, fail.
     pub fn new(held: FileList, fails: CallList) -> Self
-        ensures { result ≡ record { held = held; plan = first_plan fails; read_faults = 0 } }
+        ensures { result ≡ record { held = held; plan = first_plan fails; read_faults = 0; write_faults = 0 } }
     {
         MemFiles {
             held,
             plan: FailPlan::new(fails),
             read_faults: 0,
+            write_faults: 0,
         }
     }
 }
@@ -46,7 +49,7 @@ impl Files for MemFiles {
 
     ghost read_faults = { λ f. f.read_faults };
 
-    ghost write_faults = { λ _. 0 };
+    ghost write_faults = { λ f. f.write_faults };
 
     /// The bytes held under the name, if they are at most `limit`. `Failed` comes exactly at the calls listed.
     fn read(&mut self, alloc: Global, name: &Text, limit: usize) -> Result<Vec<u8>, FileNo>
@@ -66,6 +69,7 @@ impl Files for MemFiles {
         ensures later { self.old.read_faults ≤ self.new.read_faults }
         ensures numbered { self.new.plan ≡ plan_after self.old.plan }
         ensures same { self.new.held ≡ self.old.held }
+        ensures writes { self.new.write_faults ≡ self.old.write_faults }
     {
         if self.plan.next_fails() {
             self.read_faults = count_after_fault(self.read_faults);
@@ -79,6 +83,73 @@ impl Files for MemFiles {
         }
         Vec::from_slice(alloc, bytes).map_err(|_| FileNo::Memory)
     }
+
+    /// Puts the bytes under the name, in the place of those that are there. `Failed` comes exactly at the calls listed,
+    /// and after each refusal all is held as before.
+    fn write(&mut self, alloc: Global, name: &Text, bytes: &[u8]) -> Result<(), WriteNo>
+        ensures failed { IsErrOf result WriteNo.Failed ↔ IsListed self.old.plan }
+        ensures written { OnOk result (file_under name.now self.new.held ≡ Some bytes.now) }
+        ensures others { (other : List ℕ) → other ≢ name.now
+            → file_under other self.new.held ≡ file_under other self.old.held }
+        ensures stays { IsErr result → self.new.held ≡ self.old.held }
+        ensures faults { self.new.write_faults ≡ faults_after_write result self.old.write_faults }
+        ensures later { self.old.write_faults ≤ self.new.write_faults }
+        ensures numbered { self.new.plan ≡ plan_after self.old.plan }
+        ensures reads { self.new.read_faults ≡ self.old.read_faults }
+    {
+        if self.plan.next_fails() {
+            self.write_faults = count_after_fault(self.write_faults);
+            return Err(WriteNo::Failed);
+        }
+        let Ok(item) = file_of(alloc, name, bytes) else {
+            return Err(WriteNo::Memory);
+        };
+        put(&mut self.held, item)
+    }
+}
+
+/// The file of that name with these bytes.
+fn file_of(alloc: Global, name: &Text, bytes: &[u8]) -> Result<FileItem, AllocError>
+    ensures { IfOk result (λ item. item ≡ record { name = name.now; bytes = bytes.now }) }
+{
+    Ok(FileItem {
+        name: name.copy(alloc)?,
+        bytes: Text::from_bytes(alloc, bytes)?,
+    })
+}
+
+/// Puts the file in the place of the first with its name, and behind all others where there is none.
+fn put(held: &mut FileList, item: FileItem) -> Result<(), WriteNo>
+    ensures written { OnOk result (file_under item.name held.new ≡ Some item.bytes) }
+    ensures others { (other : List ℕ) → other ≢ item.name → file_under other held.new ≡ file_under other held.old }
+    ensures stays { IsErr result → held.new ≡ held.old }
+    ensures memory { IfErr result (λ no. no ≡ WriteNo.Memory) }
+{
+    match index_of(&item.name, held) {
+        Some(index) => {
+            held.set(index, item);
+            Ok(())
+        }
+        None => add(held, item),
+    }
+}
+
+/// Puts the file behind all others.
+fn add(held: &mut FileList, item: FileItem) -> Result<(), WriteNo>
+    ensures added { OnOk result (held.new ≡ held.old ++ item ∷ []) }
+    ensures stays { IsErr result → held.new ≡ held.old }
+    ensures memory { IfErr result (λ no. no ≡ WriteNo.Memory) }
+{
+    held.push(item).map_err(|_| WriteNo::Memory)
+}
+
+/// The index of the first file with that name.
+fn index_of(name: &Text, held: &FileList) -> Option<usize>
+    ensures { result ≡ position (λ item. bytes_eq item.name name.now) held.now }
+{
+    let name = name.items();
+    let mut items = held.items().iter();
+    items.position(|item| item.name.items() == name)
 }
 
 /// The bytes of the first file with that name.

@@ -1,7 +1,7 @@
 use crate::reads::read_within;
 use crate::{
     CallList, Failed, FileItem, FileList, FileNo, Files, HostErr, HostFiles, HostOut, HostStream,
-    MemFiles, MemSink, Sink, write_all,
+    MemFiles, MemSink, Sink, WriteNo, write_all,
 };
 use std::alloc::{AllocError, Global};
 use std::io::Print;
@@ -28,6 +28,16 @@ fn read_named<F: Files + Send>(
 ) -> Result<Vec<u8>, FileNo> {
     let name = Text::from_bytes(alloc, name).map_err(|_| FileNo::Memory)?;
     files.read(alloc, &name, limit)
+}
+
+fn write_named<F: Files + Send>(
+    alloc: Global,
+    files: &mut F,
+    name: &[u8],
+    bytes: &[u8],
+) -> Result<(), WriteNo> {
+    let name = Text::from_bytes(alloc, name).map_err(|_| WriteNo::Memory)?;
+    files.write(alloc, &name, bytes)
 }
 
 fn send_all<K: Sink + Send>(bytes: &[u8], sink: &mut K) -> Result<(), Failed> {
@@ -57,6 +67,29 @@ fn files_in_memory(rt: HostRuntime) -> Result<(), Fail> {
             (Err(no), Err(want)) => assert_eq!(rt; no, want),
             _ => panic!(rt; "another answer at {name} within {limit}"),
         }
+    }
+    Ok(())
+}
+
+/// Reads and writes are numbered together, and a write that fails changes nothing.
+#[test]
+fn writes_in_memory(rt: HostRuntime) -> Result<(), Fail> {
+    let alloc = rt.alloc();
+    let mut held = FileList::new(alloc);
+    for (name, bytes) in [("a", "abc"), ("a", "second")] {
+        let item = file(alloc, name.as_bytes(), bytes.as_bytes())?;
+        assert!(rt; held.push(item).is_ok());
+    }
+    let mut files = MemFiles::new(held, call_list(alloc, &[1])?);
+    assert_eq!(rt; write_named(alloc, &mut files, b"a", b"new"), Ok(()));
+    assert_eq!(rt;
+        write_named(alloc, &mut files, b"a", b"newer"),
+        Err(WriteNo::Failed)
+    );
+    assert_eq!(rt; write_named(alloc, &mut files, b"b", b""), Ok(()));
+    for (name, want) in [("a", "new"), ("b", "")] {
+        let bytes = read_named(alloc, &mut files, name.as_bytes(), 9).map_err(|_| "read")?;
+        assert_eq!(rt; bytes.as_slice(), want.as_bytes());
     }
     Ok(())
 }
@@ -116,6 +149,41 @@ fn files_of_the_host(rt: HostRuntime) -> Result<(), Fail> {
         read_named(alloc, &mut files, &[255], 9).err(),
         Some(FileNo::Failed)
     );
+    Ok(())
+}
+
+/// A file that is made, and written over; a folder that is not there; and a name that is no text.
+#[test]
+fn writes_of_the_host(rt: HostRuntime) -> Result<(), Fail> {
+    let alloc = rt.alloc();
+    let folder = env::temp_dir(&rt)?;
+    let path = format!(in alloc;
+        "{}/chocola-world-io-written-{}",
+        folder.display(),
+        std::process::id(rt.process())
+    )?;
+    let mut files = HostFiles::new(&rt);
+    let name = path.as_bytes();
+    for bytes in ["first and longer", "second"] {
+        assert_eq!(rt;
+            write_named(alloc, &mut files, name, bytes.as_bytes()),
+            Ok(())
+        );
+        assert_eq!(rt;
+            read_named(alloc, &mut files, name, 99)
+                .map_err(|_| "read")?
+                .as_slice(),
+            bytes.as_bytes()
+        );
+    }
+    fs::remove_file(&rt, path.as_str())?;
+    let below = format!(in alloc; "{}/none/t", folder.display())?;
+    for name in [below.as_bytes(), &[255]] {
+        assert_eq!(rt;
+            write_named(alloc, &mut files, name, b"x"),
+            Err(WriteNo::Failed)
+        );
+    }
     Ok(())
 }
 
