@@ -22,3 +22,4 @@ mod values;
 mod walk;
 
 pub use machine::Machine;
+pub use values::copy_list;

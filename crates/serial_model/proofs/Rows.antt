@@ -76,7 +76,7 @@ call_gives_five = refl
 abbrev printed : Table
 printed = table (row 10 (node.Int (pos 5)) ∷ row 1 (node.Println (record { index = 0 } ∷ [])) ∷ [])
 
-line_of_five : line_of (value.Int (pos 5) ∷ []) ≡ codes "5\n"
+pub line_of_five : line_of (value.Int (pos 5) ∷ []) ≡ codes "5\n"
 unfolding digits
 line_of_five = search (rules, the_lemmas)
 

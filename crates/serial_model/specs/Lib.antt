@@ -1,8 +1,14 @@
+pub mod Carried
 pub mod Eval
+pub mod First
 pub mod Fitting
+pub mod Laws
 pub mod Limits
+pub mod Log
 pub mod Named
 pub mod Operation
 pub mod Replay
 pub mod State
 pub mod Step
+pub mod Task
+pub mod Trace

@@ -3,7 +3,7 @@ use Rattle.std.specs.Prelude.{◌≡◌, ℕ, List, [], ◌∷◌, Option, None,
 use Rattle.std.specs.Option.{option_and_then}
 use Rattle.serial_model.specs.declared.entry.Entry.{Entry}
 use Rattle.serial_model.specs.declared.end.End.{End}
-use Rattle.serial_model.specs.declared.end.End.TheVariants.{Done, Fault, Spent}
+use Rattle.serial_model.specs.declared.end.End.TheVariants.{Done, Fault, Spent, UnitsSpent}
 use Rattle.serial_model.specs.State.{Setup, State, opening}
 use Rattle.serial_model.specs.Step.{step}
 
@@ -25,3 +25,4 @@ abbrev pub status : End → ℕ
 status Done = 0
 status (Fault code at unit) = 1
 status (Spent unit) = 5
+status UnitsSpent = 5

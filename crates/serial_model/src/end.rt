@@ -7,6 +7,8 @@ pub enum End {
     Done,
     /// A form of that unit failed, at that place.
     Fault { code: Code, at: Place, unit: Name },
-    /// That unit would have entered one node more than it has fuel for.
+    /// That unit, or a task of its transaction, would have entered one node more than it has fuel for.
     Spent { unit: Name },
+    /// One unit more than the limit would have been made.
+    UnitsSpent,
 }

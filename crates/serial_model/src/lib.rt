@@ -1,7 +1,9 @@
 //! What a run means when one thread does it: its entries, its end and its history, and in `specs/` the meaning itself.
 #![tactic(auto)]
 
+mod actor_state;
 mod answer;
+mod effect;
 mod end;
 mod entry;
 mod halt;
@@ -9,15 +11,22 @@ mod history;
 mod laws;
 mod limits;
 mod request;
+mod trace;
 
+pub use actor_state::ActorState;
 pub use answer::Answer;
+pub use effect::{Effect, What};
 pub use end::End;
 pub use entry::Entry;
 pub use halt::Halt;
 pub use history::History;
-pub use laws::meets_no_misfit;
+pub use laws::{
+    entries_are_bounded, meets_no_misfit, none_is_over, none_is_stuck, nothing_waits,
+    units_are_begun,
+};
 pub use limits::Limits;
 pub use request::Request;
+pub use trace::{LineKind, TRACE_LIMIT, Trace};
 
 #[cfg(test)]
 mod tests;

@@ -45,7 +45,8 @@ impl Limits {
 
     /// The most units that a run makes, main among them.
     pub fn units(self) -> u32
-        ensures { result ≡ self.units }
+        ensures value { result ≡ self.units }
+        ensures in_range { IsInRange self }
     {
         self.units
     }

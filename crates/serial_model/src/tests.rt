@@ -10,8 +10,11 @@ fn keeps_its_entries(rt: HostRuntime) -> Result<(), Fail> {
         history.push(Entry::Run(Name::main(rt.alloc())?))?;
     }
     assert_eq!(rt; history.entries().len(), 3);
-    for Entry::Run(name) in history.entries() {
-        assert_eq!(rt; name.parts(), [0].as_slice());
+    for entry in history.entries() {
+        match entry {
+            Entry::Run(name) => assert_eq!(rt; name.parts(), [0].as_slice()),
+            Entry::Take(_, _) => assert!(rt; false, "another entry"),
+        }
     }
     Ok(())
 }
