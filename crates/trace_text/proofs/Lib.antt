@@ -1,0 +1,17 @@
+pub mod Cuts
+pub mod Digits
+pub mod Options
+pub mod Words
+pub mod Nos
+pub mod Pairs
+pub mod Shapes
+pub mod LineShapes
+pub mod LinesOf
+pub mod Feeds
+pub mod Passing
+pub mod Whys
+pub mod Writing
+pub mod Unique
+pub mod Deciding
+pub mod DecidingLines
+pub mod Every

@@ -1,0 +1,4 @@
+pub mod Cut
+pub mod Lines
+pub mod Refused
+pub mod Same
