@@ -1,0 +1,14 @@
+pub mod Asked
+pub mod Closing
+pub mod Forking
+pub mod Kept
+pub mod Knowing
+pub mod NameMaps
+pub mod Nows
+pub mod Replies
+pub mod Runs
+pub mod Serials
+pub mod Standings
+pub mod Takes
+pub mod Transacts
+pub mod Turning

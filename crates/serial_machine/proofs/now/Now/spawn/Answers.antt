@@ -1,0 +1,11 @@
+use Rattle.std.proofs.Common.{refl}
+use Rattle.std.proofs.lemmas.Result.{on_ok_weaker}
+use Rattle.value_core.specs.declared.value.Value.TheVariants as value
+use Rattle.serial_model.specs.Step as row
+use Rattle.serial_machine.proofs.Asked.{makes}
+use Rattle.serial_machine.proofs.now.Now.spawn.Goals as goal
+
+pub returns : goal.returns
+returns c = on_ok_weaker c.reply.result (λ replied. λ setup.
+    makes setup c.args.name.now c.args.self.now c.put_actor.new.self c.reply.new.self (λ n s. row.spawned s n c.args.behaviour c.args.state) (λ n. value.Actor n) c.in_ok-copy.field-0 c.in_ok-made.made
+    (c.in_ok-put_actor.ensures.comes setup) (replied setup) (λ n s apart. refl) c.in_ok-copy.ensures c.in_ok-made.ensures.other c.in_ok-made.ensures.value) c.reply.ensures

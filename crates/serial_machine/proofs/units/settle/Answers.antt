@@ -1,0 +1,10 @@
+use Rattle.std.proofs.Common.{ap}
+use Rattle.std.specs.Option.{option_copied_mut}
+use Rattle.std.proofs.lemmas.Result.{on_ok_weaker}
+use Rattle.serial_machine.proofs.Kept.{found_named, changed}
+use Rattle.serial_machine.proofs.units.settle.Goals as goal
+
+pub returns-in-Some : goal.returns-in-Some
+returns-in-Some c = on_ok_weaker c.settle.result (λ done.
+    changed c.args.name.now c.args.units.now (c.get_mut.follows.lender c.settle.new.self) c.settle.new.self _ _ (c.get_mut.follows.holds c.settle.new.self)
+    (found_named c.args.name.now c.args.units.now (option_copied_mut c.get_mut.result) _ c.get_mut.ensures.value (ap option_copied_mut c.in-Some.is)) (done, c.settle.ensures.keeps)) c.settle.ensures.unit

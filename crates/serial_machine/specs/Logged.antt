@@ -1,0 +1,24 @@
+-- How a log is kept.
+use Rattle.std.specs.Prelude.{◌≡◌, ℕ, List, refl}
+use Rattle.std.specs.Coded.{Coded, code_by, coded×, coded_list, coded_ℕ}
+use Rattle.std.specs.BTreeSet.{BTreeSet}
+use Rattle.value_core.specs.contracts.value.Value as value
+use Rattle.value_core.specs.declared.value.Value.{Value}
+use Rattle.serial_model.specs.contracts.effect.Effect as effect
+use Rattle.serial_model.specs.declared.effect.Effect.{Effect}
+use Rattle.serial_model.specs.Log.{Log}
+use Rattle.serial_model.specs.Named.{Name, Named, is_among}
+use Rattle.serial_machine.specs.Map.{has_name}
+
+-- it is stored as its parts
+abbrev pub log_code : Coded Log
+log_code =
+    code_by (Name × (Named Value × (List Name × (ℕ × (ℕ × List Effect)))))
+    (coded× (coded_list coded_ℕ) (coded× (coded_list (coded× (coded_list coded_ℕ) (value.the_row).coded)) (coded× (coded_list (coded_list coded_ℕ)) (coded× coded_ℕ (coded× coded_ℕ (coded_list (effect.the_row).coded))))))
+    (λ l. (l.name, (l.writes, (l.joined, (l.made, (l.own, l.effects))))))
+    (λ p. record { name = p.0; writes = p.1.0; joined = p.1.1.0; made = p.1.1.1.0; own = p.1.1.1.1.0; effects = p.1.1.1.1.1 })
+    (λ _. refl)
+
+-- the set has the names of the list and no others
+abbrev pub HasNames : BTreeSet Name → List Name → Type 0
+HasNames set names = (name : Name) → has_name set name ≡ is_among name names

@@ -1,0 +1,39 @@
+ghost use Rattle.std.specs.Prelude.{◌≡◌};
+ghost use Rattle.std.specs.Option.{option_copied};
+ghost use Rattle.serial_machine.specs.Tasks.{around_of};
+
+use crate::maps::find;
+use crate::unit::Unit;
+use core_syntax::Program;
+use std::collections::BTreeMap;
+use value_core::{Name, Value};
+
+/// What the tasks of a transaction are run with: the program, the fuel of each, the turn's actor where there is one, the
+/// refs, and the units.
+#[derive(Drop)]
+pub(crate) struct Around<'a> {
+    pub(crate) program: &'a Program,
+    pub(crate) fuel: u64,
+    pub(crate) actor: Option<&'a Name>,
+    pub(crate) refs: &'a BTreeMap<Name, Value>,
+    pub(crate) units: &'a BTreeMap<Name, Unit>,
+}
+
+impl Around<'_> {
+    /// The value of the ref, as it is in the store.
+    pub(crate) fn stored(&self, name: &Name) -> Option<&Value>
+        ensures { option_copied result ≡ (around_of self.now).store name.now }
+    {
+        find(self.refs, name)
+    }
+
+    /// The value of the unit, where it is finished.
+    pub(crate) fn finished(&self, name: &Name) -> Option<&Value>
+        ensures { option_copied result ≡ (around_of self.now).finished name.now }
+    {
+        match find(self.units, name) {
+            Some(unit) => unit.value.as_ref(),
+            None => None,
+        }
+    }
+}

@@ -1,0 +1,110 @@
+ghost use Rattle.std.specs.Prelude.{◌≡◌, ◌<◌, OnOk, IfOk, None, length};
+ghost use Rattle.value_core.specs.declared.value.Value.{Value as Datum};
+ghost use Rattle.serial_model.specs.Log.{Log};
+ghost use Rattle.serial_model.specs.Named.{Named, named, over};
+ghost use Rattle.serial_model.specs.State.{Setup, UnitState};
+ghost use Rattle.serial_model.specs.Step as row;
+ghost use Rattle.serial_machine.specs.Now.{state_after, turned_into, Does, Tries, TakesEffects};
+ghost use Rattle.serial_machine.specs.Units.{AsksAt};
+
+use crate::around::Around;
+use crate::copies::copy_effect;
+use crate::log::TaskLog;
+use crate::maps::{find, put};
+use crate::now::Now;
+use crate::task::{Done, TaskEnd};
+use crate::transact::transact;
+use crate::unit::Becoming;
+use core_syntax::{NodeId, Program};
+use serial_model::{Effect, Limits, What};
+use std::alloc::{AllocError, Global};
+use std::collections::BTreeMap;
+use value_core::{Code, Name, Place, Value, Values};
+
+impl TaskLog {
+    /// The refs written.
+    pub(crate) fn writes(&self) -> &BTreeMap<Name, Value>
+        ensures { result.now.entries ≡ self.now.writes }
+    {
+        &self.writes
+    }
+
+    /// Gives up the log for its effects.
+    pub(crate) fn into_effects(self) -> Vec<Effect>
+        ensures { result.items ≡ self.effects }
+    {
+        self.effects
+    }
+}
+
+/// The refs, with what is written.
+fn put_over(
+    alloc: Global,
+    refs: &mut BTreeMap<Name, Value>,
+    writes: &BTreeMap<Name, Value>,
+) -> Result<(), AllocError>
+    ensures { OnOk result (refs.new.entries ≡ over writes.now.entries refs.old.entries) }
+{
+    for (name, value) in writes {
+        let value = value.copy(alloc)?;
+        put(refs, name.copy(alloc)?, value)?;
+    }
+    Ok(())
+}
+
+impl Now {
+    /// An effect of a transaction of that unit.
+    fn take_effect(
+        &mut self,
+        alloc: Global,
+        name: &Name,
+        what: What,
+        becomes: &mut Option<Becoming>,
+    ) -> Result<(), AllocError>
+        ensures units { self.new.units ≡ self.old.units }
+        ensures taken { OnOk result (TakesEffects self.old becomes.old self.new becomes.new (λ s unit. row.takes_effect name.now s unit what)) }
+    {
+        match what {
+            What::Bytes(text) => self.print_bytes(text.items()),
+            What::Send(actor, message) => self.deliver(alloc, actor, name, message),
+            What::Spawn(actor, behaviour, state) => self.put_actor(actor, behaviour, state),
+            What::Become(behaviour, state) => {
+                *becomes = Some(Becoming { behaviour, state });
+                Ok(())
+            }
+        }
+    }
+
+    /// The effects of a transaction of that unit, in order.
+    fn take_effects(
+        &mut self,
+        alloc: Global,
+        name: &Name,
+        effects: Vec<Effect>,
+    ) -> Result<Option<Becoming>, AllocError>
+        ensures units { OnOk result (self.new.units ≡ self.old.units) }
+        ensures taken { IfOk result (λ becomes. TakesEffects self.old None self.new becomes (λ s unit. row.take_effects name.now effects.items s unit)) }
+    {
+        let mut becomes = None;
+        for effect in effects {
+            self.take_effect(alloc, name, effect.what, &mut becomes)?;
+        }
+        Ok(becomes)
+    }
+
+    /// A commit: the written and new refs are set, and the effects are done in order. It is answered with the value.
+    pub(crate) fn commit(
+        &mut self,
+        alloc: Global,
+        name: &Name,
+        log: TaskLog,
+        value: Value,
+    ) -> Result<(), AllocError>
+        requires { AsksAt name.now self.old.units.entries }
+        ensures { OnOk result ((setup : Setup) → Does setup name.now self.old self.new (λ s unit. row.commits s name.now unit log value)) }
+    {
+        put_over(alloc, &mut self.refs, log.writes())?;
+        let becomes = self.take_effects(alloc, name, log.into_effects())?;
+        self.reply(alloc, name, true, becomes, value)
+    }
+}

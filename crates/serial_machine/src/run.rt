@@ -1,0 +1,296 @@
+ghost use Rattle.std.specs.Prelude.{◌≡◌, ◌<◌, ℕ, List, OnOk, IfOk, Some, None, length, true, false, IsOk};
+ghost use Rattle.std.specs.Option.{option_map};
+ghost use Rattle.core_syntax.specs.WellFormed.{IsWellFormed};
+ghost use Rattle.eval_step.specs.Evaluation.{IsAsk};
+ghost use Rattle.serial_model.specs.Carried.{IsThere};
+ghost use Rattle.serial_model.specs.declared.request.Request.TheVariants as request;
+ghost use Rattle.serial_model.specs.Named.{named};
+ghost use Rattle.serial_model.specs.State.{Setup, UnitState};
+ghost use Rattle.serial_model.specs.Task.{transaction};
+ghost use Rattle.serial_model.specs.Step as row;
+ghost use Rattle.serial_machine.specs.Now.{state_after, IsResult, Comes, Does, Tries, Steps};
+ghost use Rattle.serial_machine.specs.Units.{AreUnits, AsksAt, IsUnit, IsChanged, IsFreed, IsThereAt, IsGone, IsRun, becoming_of, unit_of, units_of};
+
+use crate::around::Around;
+use crate::maps::find;
+use crate::now::Now;
+use crate::task::{Done, TaskEnd};
+use crate::transact::transact;
+use crate::unit::{Becoming, Unit};
+use core_syntax::{NodeId, Program};
+use eval_step::copy_list;
+use serial_model::{ActorState, Halt, Limits, Request};
+use std::alloc::{AllocError, Global};
+use std::collections::BTreeMap;
+use value_core::{Code, Name, Place, Value, Values};
+
+/// The unit goes on to where it stops, where it is there and not finished.
+fn go_on(
+    units: &mut BTreeMap<Name, Unit>,
+    alloc: Global,
+    program: &Program,
+    limits: Limits,
+    name: &Name,
+) -> Result<Option<Halt>, AllocError>
+    requires { AreUnits (record { program = program.now; limits = limits }) units.old.entries }
+    ensures { IfOk result (λ halt. IsRun (record { program = program.now; limits = limits }) name.now units.old.entries units.new.entries halt) }
+{
+    match units.get_mut(name) {
+        Some(unit) => unit.go_on(alloc, program, limits),
+        None => Ok(None),
+    }
+}
+
+impl Unit {
+    fn go_on(
+        &mut self,
+        alloc: Global,
+        program: &Program,
+        limits: Limits,
+    ) -> Result<Option<Halt>, AllocError>
+        requires { IsUnit (record { program = program.now; limits = limits }) self.old }
+        ensures { IfOk result (λ halt. IsGone (record { program = program.now; limits = limits }) self.old self.new halt self.old.value) }
+    {
+        if self.value.is_some() {
+            return Ok(None);
+        }
+        let halt = self.machine.run_to_ask(alloc, program)?;
+        Ok(Some(halt))
+    }
+
+    fn finish(&mut self, value: Value)
+        ensures { self.new ≡ record self.old { value = Some value } }
+    {
+        self.value = Some(value);
+    }
+}
+
+/// The unit is finished with that value.
+fn finish(units: &mut BTreeMap<Name, Unit>, name: &Name, value: Value)
+    ensures { IsChanged name.now units.old.entries units.new.entries (λ unit after. after ≡ record unit { value = Some value }) }
+{
+    if let Some(unit) = units.get_mut(name) {
+        unit.finish(value);
+    }
+}
+
+impl Now {
+    /// A transaction: it is committed, or its end is the run's, or it waits.
+    fn dosync(
+        &mut self,
+        alloc: Global,
+        program: &Program,
+        limits: Limits,
+        name: &Name,
+        at: Place,
+        body: NodeId,
+        values: Values,
+    ) -> Result<bool, AllocError>
+        requires asks { AsksAt name.now self.old.units.entries }
+        requires there { body.index < length program.now.nodes }
+        ensures { IfOk result (λ done. Tries (record { program = program.now; limits = limits }) name.now self.old self.new done
+            (λ s unit. row.transacts (record { program = program.now; limits = limits }) s name.now unit at body values)) }
+    {
+        let Done { end, task } = self.transacted(alloc, program, limits, name, body, values)?;
+        match end {
+            TaskEnd::Value(value) => {
+                if value.holds_future() {
+                    self.fail(alloc, name, Code::FutureEscapes, at)?;
+                } else {
+                    self.commit(alloc, name, task.log, value)?;
+                }
+                Ok(true)
+            }
+            TaskEnd::Fault(code, place) => {
+                self.fail(alloc, name, code, place)?;
+                Ok(true)
+            }
+            TaskEnd::Spent => {
+                self.spend(alloc, name)?;
+                Ok(true)
+            }
+            TaskEnd::Blocked => Ok(false),
+        }
+    }
+
+    /// What the transaction comes to.
+    fn transacted(
+        &self,
+        alloc: Global,
+        program: &Program,
+        limits: Limits,
+        name: &Name,
+        body: NodeId,
+        values: Values,
+    ) -> Result<Done, AllocError>
+        requires { body.index < length program.now.nodes }
+        ensures { IfOk result (λ done. (before : List ℕ) (unit : UnitState) → named name.now (units_of self.now.units.entries) ≡ Some unit
+            → IsResult done (transaction (row.around (record { program = program.now; limits = limits }) (state_after before self.now) unit) (row.next_made name.now unit) body values)) }
+    {
+        let made = self.next_made(alloc, name)?;
+        let around = Around {
+            program,
+            fuel: limits.fuel(),
+            actor: self.actor_of(name),
+            refs: &self.refs,
+            units: &self.units,
+        };
+        transact(alloc, &around, made, body, values)
+    }
+
+    /// What the unit's request does.
+    fn serve(
+        &mut self,
+        alloc: Global,
+        program: &Program,
+        limits: Limits,
+        name: &Name,
+        at: Place,
+        request: Request,
+    ) -> Result<bool, AllocError>
+        requires asks { AsksAt name.now self.old.units.entries }
+        requires there { IsThere program.now false request }
+        ensures { IfOk result (λ done. Tries (record { program = program.now; limits = limits }) name.now self.old self.new done
+            (λ s unit. row.does (record { program = program.now; limits = limits }) s name.now unit at request)) }
+    {
+        match request {
+            Request::Print(text) => done(self.print(alloc, name, &text)),
+            Request::NewRef(content) => done(self.new_ref(alloc, name, content)),
+            Request::Deref(asked) => self.deref(alloc, name, &asked),
+            Request::RefSet(_asked, _content) => done(self.fail(
+                alloc,
+                name,
+                Code::NoTransaction,
+                at,
+            )),
+            Request::Fork(body, values) => done(self.fork(
+                alloc, program, limits, name, body, values,
+            )),
+            Request::Join(future) => self.join(alloc, name, &future),
+            Request::Dosync(body, values) => self.dosync(
+                alloc, program, limits, name, at, body, values,
+            ),
+            Request::Spawn(behaviour, state) => done(self.spawn(alloc, name, behaviour, state)),
+            Request::Send(actor, message) => done(self.send(alloc, name, actor, message)),
+            Request::Become(behaviour, state) => done(self.turn_into(
+                alloc, name, at, behaviour, state,
+            )),
+            Request::SelfActor => done(self.own_actor(alloc, name, at)),
+        }
+    }
+}
+
+impl Now {
+    /// The unit does its next effect, or is finished at its value. A fault and a spent budget end the run.
+    pub(crate) fn run(
+        &mut self,
+        alloc: Global,
+        program: &Program,
+        limits: Limits,
+        name: &Name,
+    ) -> Result<bool, AllocError>
+        requires well_formed { IsWellFormed program.now }
+        requires units { AreUnits (record { program = program.now; limits = limits }) self.old.units.entries }
+        ensures { IfOk result (λ done. Steps (record { program = program.now; limits = limits }) self.old self.new done
+            (λ s. row.run_step (record { program = program.now; limits = limits }) s name.now)) }
+    {
+        match go_on(&mut self.units, alloc, program, limits, name)? {
+            Some(halt) => self.follow(alloc, program, limits, name, halt),
+            None => Ok(false),
+        }
+    }
+
+    /// What the unit's halt does.
+    fn follow(
+        &mut self,
+        alloc: Global,
+        program: &Program,
+        limits: Limits,
+        name: &Name,
+        halt: Halt,
+    ) -> Result<bool, AllocError>
+        requires asks { IsAsk halt → AsksAt name.now self.old.units.entries }
+        requires there { IsThereAt program.now halt }
+        ensures { IfOk result (λ done. Tries (record { program = program.now; limits = limits }) name.now self.old self.new done
+            (λ s unit. row.goes_on (record { program = program.now; limits = limits }) s name.now unit halt)) }
+    {
+        match halt {
+            Halt::Ask(request, at) => self.serve(alloc, program, limits, name, at, request),
+            Halt::Value(value) => done(self.end_unit(alloc, name, value)),
+            Halt::Fault(code, at) => done(self.fail(alloc, name, code, at)),
+            Halt::Spent => done(self.spend(alloc, name)),
+        }
+    }
+
+    /// At its value a unit is finished, and the actor of a turn is idle.
+    fn end_unit(&mut self, alloc: Global, name: &Name, value: Value) -> Result<(), AllocError>
+        ensures { OnOk result ((setup : Setup) → Does setup name.now self.old self.new (λ s unit. row.finishes s name.now unit value)) }
+    {
+        finish(&mut self.units, name, value);
+        self.release(alloc, name)
+    }
+
+    /// The actor of the unit's turn is idle, and becomes what is said.
+    fn release(&mut self, alloc: Global, name: &Name) -> Result<(), AllocError>
+        ensures units { self.new.units ≡ self.old.units }
+        ensures released { OnOk result ((setup : Setup) → Does setup name.now self.old self.new (λ s unit. row.released unit.actor s unit.becomes)) }
+    {
+        match find(&self.units, name) {
+            Some(unit) => match &unit.actor {
+                Some(actor) => free(&mut self.actors, alloc, actor, &unit.becomes),
+                None => Ok(()),
+            },
+            None => Ok(()),
+        }
+    }
+}
+
+/// The actor of that name is idle, and becomes what is said.
+fn free(
+    actors: &mut BTreeMap<Name, ActorState>,
+    alloc: Global,
+    name: &Name,
+    becomes: &Option<Becoming>,
+) -> Result<(), AllocError>
+    ensures { OnOk result (IsFreed name.now actors.old.entries actors.new.entries (named name.now actors.old.entries) (option_map becoming_of becomes.now)) }
+{
+    let becomes = copy_becoming(alloc, becomes)?;
+    if let Some(actor) = actors.get_mut(name) {
+        rest(actor, becomes);
+    }
+    Ok(())
+}
+
+fn copy_becoming(alloc: Global, becomes: &Option<Becoming>) -> Result<Option<Becoming>, AllocError>
+    ensures { IfOk result (λ copied. copied ≡ becomes.now) }
+{
+    match becomes {
+        Some(next) => {
+            let state = copy_list(alloc, next.state.items())?;
+            Ok(Some(Becoming {
+                behaviour: next.behaviour,
+                state,
+            }))
+        }
+        None => Ok(None),
+    }
+}
+
+fn rest(actor: &mut ActorState, becomes: Option<Becoming>)
+    ensures { actor.new ≡ row.after_turn (option_map becoming_of becomes) actor.old }
+{
+    actor.busy = false;
+    if let Some(next) = becomes {
+        actor.behaviour = next.behaviour;
+        actor.state = next.state;
+    }
+}
+
+/// It is done, where there was memory.
+pub(crate) fn done(did: Result<(), AllocError>) -> Result<bool, AllocError>
+    ensures done { IfOk result (λ done. done ≡ true) }
+    ensures did { IsOk result → IsOk did }
+{
+    did?;
+    Ok(true)
+}

@@ -1,0 +1,159 @@
+ghost use Rattle.std.specs.Prelude.{◌≡◌, ◌∷◌, ◌++◌, [], ℕ, ◌<◌, length, List, suc, true, IfOk, OnOk, Some, None, if◌then◌else◌};
+ghost use Rattle.std.specs.Option.{option_and_then};
+ghost use Rattle.std.specs.List.{slice_get};
+ghost use Rattle.core_syntax.specs.WellFormed.{IsWellFormed};
+ghost use Rattle.serial_model.specs.Named.{made_by, named, with_named};
+ghost use Rattle.serial_model.specs.State.{Setup, State};
+ghost use Rattle.serial_model.specs.Step as row;
+ghost use Rattle.serial_model.specs.declared.actor_state.ActorState.{ActorState as Acting};
+ghost use Rattle.serial_machine.specs.Now.{Steps, Comes, BeginsTurn, IsTurn};
+ghost use Rattle.serial_machine.specs.Units.{has_first, idle_of, mail_of, queues_of, turning, IsChanged};
+
+use crate::maps::find;
+use crate::now::Now;
+use crate::queues::{Mail, take_first};
+use crate::run::done;
+use core_syntax::{NodeId, Program};
+use eval_step::copy_list;
+use serial_model::{ActorState, End, Limits};
+use std::alloc::{AllocError, Global};
+use std::collections::BTreeMap;
+use value_core::{Name, Value, Values};
+
+/// Whether that sender has a message there.
+fn waits(queues: &BTreeMap<Name, Mail>, actor: &Name, sender: &Name) -> bool
+    ensures { result ≡ has_first (row.queue_of (queues_of queues.now.entries) actor.now sender.now) }
+{
+    match find(queues, actor) {
+        Some(mail) => match find(mail, sender) {
+            Some(queue) => !queue.is_empty(),
+            None => false,
+        },
+        None => false,
+    }
+}
+
+/// The actor begins a turn: its number.
+fn begin(actors: &mut BTreeMap<Name, ActorState>, name: &Name) -> Result<(), AllocError>
+    ensures { OnOk result (IsChanged name.now actors.old.entries actors.new.entries (λ actor after. after ≡ turning actor)) }
+{
+    match actors.get_mut(name) {
+        Some(actor) => turn(actor),
+        None => Ok(()),
+    }
+}
+
+fn turn(actor: &mut ActorState) -> Result<(), AllocError>
+    ensures { OnOk result (actor.new ≡ turning actor.old) }
+{
+    actor.turns = actor.turns.checked_add(1).ok_or(AllocError)?;
+    actor.busy = true;
+    Ok(())
+}
+
+/// The values, and behind them the message.
+fn joined(alloc: Global, state: &Values, message: &Values) -> Result<Values, AllocError>
+    ensures { IfOk result (λ values. values ≡ state.now ++ message.now) }
+{
+    let mut values = copy_list(alloc, state.items())?;
+    for value in message.items() {
+        push_value(&mut values, value.copy(alloc)?)?;
+    }
+    Ok(values)
+}
+
+fn push_value(values: &mut Values, value: Value) -> Result<(), AllocError>
+    ensures { IfOk result (λ _. values.new ≡ values.old ++ value ∷ []) }
+{
+    values.push(value).map_err(|_| AllocError)
+}
+
+impl Now {
+    /// The behaviour of the actor, where it is there and idle.
+    fn idle_behaviour(&self, name: &Name) -> Option<u32>
+        ensures { result ≡ option_and_then idle_of (named name.now self.now.actors.entries) }
+    {
+        match find(&self.actors, name) {
+            Some(actor) => {
+                if actor.busy {
+                    None
+                } else {
+                    Some(actor.behaviour)
+                }
+            }
+            None => None,
+        }
+    }
+
+    /// The actor, which is idle and has a message of that sender, begins a turn on the first one.
+    fn begin_turn(
+        &mut self,
+        alloc: Global,
+        program: &Program,
+        limits: Limits,
+        actor: &Name,
+        sender: &Name,
+    ) -> Result<(), AllocError>
+        requires { (acting : Acting) → named actor.now self.old.actors.entries ≡ Some acting → acting.behaviour < length program.now.behaviours }
+        ensures { OnOk result (BeginsTurn (record { program = program.now; limits = limits }) self.old self.new actor.now sender.now) }
+    {
+        let (name, body, state) = self.next_turn(alloc, program, actor)?;
+        let Some(message) = take_first(&mut self.queues, actor, sender) else {
+            return Err(AllocError);
+        };
+        let values = joined(alloc, &state, &message)?;
+        let turner = actor.copy(alloc)?;
+        self.start(alloc, program, limits, name, Some(turner), body, values)?;
+        begin(&mut self.actors, actor)
+    }
+
+    /// The name, the body and the state of the actor's next turn.
+    fn next_turn(
+        &self,
+        alloc: Global,
+        program: &Program,
+        actor: &Name,
+    ) -> Result<(Name, NodeId, Values), AllocError>
+        requires { (acting : Acting) → named actor.now self.now.actors.entries ≡ Some acting → acting.behaviour < length program.now.behaviours }
+        ensures turn { IfOk result (λ turn. (acting : Acting) → named actor.now self.now.actors.entries ≡ Some acting
+            → IsTurn acting actor.now turn.0 turn.1 turn.2 program.now) }
+        ensures below { IfOk result (λ turn. turn.1.index < length program.now.nodes) }
+    {
+        match find(&self.actors, actor) {
+            Some(found) => {
+                let name = actor.child(alloc, found.turns)?;
+                let state = copy_list(alloc, found.state.items())?;
+                Ok((name, program.behaviour(found.behaviour).body, state))
+            }
+            None => Err(AllocError),
+        }
+    }
+
+    /// An idle actor begins a turn on the first message of that sender, where the limit allows one unit more.
+    pub(crate) fn take(
+        &mut self,
+        alloc: Global,
+        program: &Program,
+        limits: Limits,
+        actor: &Name,
+        sender: &Name,
+    ) -> Result<bool, AllocError>
+        ensures { IfOk result (λ done. Steps (record { program = program.now; limits = limits }) self.old self.new done
+            (λ s. option_and_then (row.take_step (record { program = program.now; limits = limits }) s actor.now sender.now) (named actor.now s.actors))) }
+    {
+        let Some(behaviour) = self.idle_behaviour(actor) else {
+            return Ok(false);
+        };
+        if program.behaviours() <= behaviour {
+            return Ok(false);
+        }
+        if !waits(&self.queues, actor, sender) {
+            return Ok(false);
+        }
+        if self.made == limits.units() {
+            self.end_with(End::UnitsSpent);
+            return Ok(true);
+        }
+        done(self.begin_turn(alloc, program, limits, actor, sender))
+    }
+}
