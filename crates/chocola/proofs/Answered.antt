@@ -1,14 +1,157 @@
--- What a result says, whichever variant it is.
-use Rattle.std.specs.Prelude.{Result, Ok, Err, OnOk, OnErr}
+-- From the files of a replay to what is owed to it.
+use Rattle.std.proofs.Common.{◌≡◌, ◌≢◌, ◌<◌, ℕ, zero, suc, List, [], ◌∷◌, sym, ◌∙◌, ap, subst, inl, inr, arith}
+use Rattle.std.specs.Prelude.{◌⊎◌, Option, None, Some, IfSome, Contains, slice_index_or}
+use Rattle.std.specs.Io.KnownBytes.{append_known}
+use Rattle.core_syntax.specs.Table.{Table}
+use Rattle.serial_model.specs.Replay.{replay, IsOver, status}
+use Rattle.serial_model.specs.Trace.{IsTextOfTrace, trace_refusal}
+use Rattle.serial_model.specs.declared.end.End.{End}
+use Rattle.serial_model.specs.declared.trace.Trace.{Trace}
+use Rattle.serial_model.specs.declared.trace.LineKind.{LineKind}
+use Rattle.trace_text.specs.Same.{IsSameTrace}
+use Rattle.trace_text.proofs.Unique.{one_trace_of, not_refused}
+use Rattle.world_io.specs.Counts.{Rose}
+use Rattle.world_io.specs.Held.{told}
+use Rattle.world_io.specs.Taken.{TookPrefix, Said}
+use Rattle.chocola.specs.declared.outcome.Outcome.{Outcome}
+use Rattle.chocola.specs.Lines.{line_of, line_begun, ended_line}
+use Rattle.chocola.specs.Program.{IsProgramOf}
+use Rattle.chocola.specs.Load.{IsLoaded, IsTraced, IsTraceDue}
+use Rattle.chocola.specs.Outcome.{IsEnded, IsStatusOfEnd}
+use Rattle.chocola.specs.ReplayAnswers.{setup_of, IsReplayed, IsReplay, Replays, ReplayOf, ReplayAnswers}
+use Rattle.chocola.specs.Seen.{Seen, IsCalm, IsGiven, IsUntouched}
+use Rattle.chocola.specs.SourceAnswers.{AreThere}
+use Rattle.chocola.proofs.Answering.{three_not_ended, four_not_ended}
+use Rattle.chocola.proofs.Loading.{held_bytes, missing_held, missing_loaded, found_program, found_refused, found_out_of_scope}
+use Rattle.chocola.proofs.Stuck.{differs_never}
 
-pub on_err : {A E P : Type 0} (r : Result A E) → P → OnErr r P
-on_err (Ok x) p = tt
-on_err (Err e) p = p
+-- one of the two names
+pub one_of_two : (file trace name : List ℕ) → Contains (file ∷ trace ∷ []) name → (name ≡ file) ⊎ (name ≡ trace)
+one_of_two file trace name h = on h.0 h.1 h.2
+  where
+    on : (k : ℕ) → k < 2 → slice_index_or (file ∷ trace ∷ []) k name ≡ name → (name ≡ file) ⊎ (name ≡ trace)
+    on zero lt e = inl (sym e)
+    on (suc zero) lt e = inr (sym e)
+    on (suc (suc k)) lt e = absurd (omega (arith, lt))
 
-pub on_ok_map : {A E P Q : Type 0} (r : Result A E) → OnOk r P → (P → Q) → OnOk r Q
-on_ok_map (Ok x) p f = f p
-on_ok_map (Err e) p f = tt
+pub second : (file trace : List ℕ) (before : Seen) → AreThere (file ∷ trace ∷ []) before → told before.held trace ≢ Some None
+second file trace before there = there 1 [] (omega arith)
 
-pub on_err_map : {A E P Q : Type 0} (r : Result A E) → OnErr r P → (P → Q) → OnErr r Q
-on_err_map (Ok x) p f = tt
-on_err_map (Err e) p f = f p
+-- the trace that is held is the one that was read
+found_trace : (found : Option (Option (List ℕ))) (text : List ℕ) (t stated : Trace) → found ≡ Some (Some text) → IsTraced found t → IsTextOfTrace stated text → IsSameTrace stated t
+found_trace found text t stated is h s =
+    let same = held_bytes found text h.bytes is h.read in
+    one_trace_of stated t s.is_trace h.text.is_trace (s.spelled ∙ same ∙ sym h.text.spelled)
+
+found_trace_refused : (found : Option (Option (List ℕ))) (text : List ℕ) (t : Trace) (kind : LineKind) (line : ℕ) → found ≡ Some (Some text) → IsTraced found t → trace_refusal text kind line → ⊥
+found_trace_refused found text t kind line is h r =
+    let same = held_bytes found text h.bytes is h.read in
+    not_refused h.bytes t kind line h.text (subst (λ b. trace_refusal b kind line) same r)
+
+pub due_trace : (found : Option (Option (List ℕ))) (text : List ℕ) (kind : LineKind) (line : ℕ) → found ≡ Some (Some text) → IsTraceDue found kind line → trace_refusal text kind line
+due_trace found text kind line is h = subst (λ x. IsTraceDue x kind line) is h
+
+-- what replays depends on what the text of a trace tells
+same_replays : (program other : Table) (t u : Trace) → program ≡ other → IsSameTrace t u → Replays other t → Replays program u
+same_replays program other t u table same r = record {
+  state = r.state;
+  each_is_enabled = ap (λ p. replay (record { program = p; limits = u.limits }) u.history.items) table
+      ∙ ap (λ l. replay (record { program = other; limits = l }) u.history.items) (sym same.limits) ∙ ap (replay (setup_of other t)) (sym same.entries) ∙ r.each_is_enabled;
+  end_is_stated = subst (λ p. IsOver (record { program = p; limits = u.limits }) r.state u.end) (sym table)
+      (subst (λ l. IsOver (record { program = other; limits = l }) r.state u.end) same.limits (subst (IsOver (setup_of other t) r.state) same.end r.end_is_stated));
+}
+
+turn : (t u : Trace) → IsSameTrace t u → IsSameTrace u t
+turn t u same = record { limits = sym same.limits; entries = sym same.entries; end = sym same.end }
+
+-- the statuses of a replay that exclude others
+not_three : (s : ℕ) → IsReplayed s ⊎ (s ≡ 6) → s ≡ 3 → ⊥
+not_three s h e = elim h [
+  | inl r ↦ elim r [ inl x ↦ three_not_ended (subst IsEnded e x) | inr x ↦ omega (arith, x, e) ]
+  | inr x ↦ omega (arith, x, e)
+]
+
+not_four : (s : ℕ) → IsReplayed s ⊎ (s ≡ 6) → s ≡ 4 → ⊥
+not_four s h e = elim h [
+  | inl r ↦ elim r [ inl x ↦ four_not_ended (subst IsEnded e x) | inr x ↦ omega (arith, x, e) ]
+  | inr x ↦ omega (arith, x, e)
+]
+
+-- an end that was come to, unless something was not written
+written_end : (s : ℕ) → IsEnded s → (s ≡ 7 → ⊥) → (s ≡ 0) ⊎ ((s ≡ 1) ⊎ (s ≡ 5))
+written_end s h calm = elim h [ inl a ↦ inl a | inr h ↦ elim h [ inl b ↦ inr (inl b) | inr h ↦ elim h [ inl c ↦ inr (inr c) | inr d ↦ absurd (calm d) ] ] ]
+
+status_of_end : (outcome : Outcome) (end : End) → outcome.end ≡ Some end → IfSome outcome.end (λ e. status e ≡ outcome.status) → IsStatusOfEnd outcome
+status_of_end outcome end is h = rw is (subst (λ e. IfSome e (λ x. status x ≡ outcome.status)) is h)
+
+-- where the replay was made
+pub replay_loaded : (file trace : List ℕ) (before after : Seen) (outcome : Outcome) (program : Table) (t : Trace) → IsLoaded (told before.held file) program → IsTraced (told before.held trace) t
+    → ReplayOf program t before.out after.out before.out_faults after.out_faults outcome
+    → (outcome.status ≡ 7 → Rose before.out_faults after.out_faults ⊎ Rose before.err_faults after.err_faults)
+    → IsUntouched before after
+    → Said before.err after.err before.err_faults after.err_faults (line_of [] outcome.status outcome.detail outcome.end)
+    → TookPrefix before.err after.err (line_begun [] outcome.status outcome.detail outcome.end)
+    → (IsEnded outcome.status → outcome.status ≢ 7 → after.err ≡ append_known before.err (ended_line outcome.end))
+    → ReplayAnswers file trace before after outcome
+replay_loaded file trace before after outcome program t loaded traced r fault files said at_most end_said = record {
+  statuses = elim r.statuses [ inl e ↦ inl e | inr m ↦ inr (inr m) ];
+  replayed = λ e. is_replay;
+  unless_memory = λ m. inr is_replay;
+  complete = λ bytes text other stated given_file source given_trace is_text calm replays. elim r.statuses [
+    | inl e ↦ elim e [
+      | inl ended ↦
+          let calm_end = written_end outcome.status ended (silent calm) in
+          inl (status_of_end outcome t.end (r.agrees calm_end).end (r.finished.status_is_the_ends (silent calm)))
+      | inr eight ↦ absurd (differs_never program t outcome r.first_entries (r.differs eight) (here bytes text other stated given_file source given_trace is_text replays))
+    ]
+    | inr m ↦ inr m
+  ];
+  must_differ = λ bytes text other stated given_file source given_trace is_text calm never. elim r.statuses [
+    | inl e ↦ elim e [
+      | inl ended ↦ absurd (never (there bytes text other stated given_file source given_trace is_text (r.agrees (written_end outcome.status ended (silent calm))).replays))
+      | inr eight ↦ inl eight
+    ]
+    | inr m ↦ inr m
+  ];
+  reads = record {
+    missing = λ name among none. absurd (elim (one_of_two file trace name among) [
+      | inl e ↦ missing_loaded (told before.held file) program (subst (λ n. told before.held n ≡ Some None) e none) loaded
+      | inr e ↦ missing_held (told before.held trace) traced.bytes (subst (λ n. told before.held n ≡ Some None) e none) traced.read
+    ]);
+    must_refuse = λ bytes kind at given there refused calm. absurd (found_refused (told before.held file) 0 0 bytes given program kind at loaded refused);
+    must_refuse_scope = λ bytes kind at given there refused calm. absurd (found_out_of_scope (told before.held file) 0 0 bytes given program kind at loaded refused);
+  };
+  must_refuse_trace = λ bytes text other kind line given_file source given_trace refusal calm. absurd (found_trace_refused (told before.held trace) text t kind line given_trace traced refusal);
+  refused = λ four. absurd (not_four outcome.status r.statuses four);
+  not_written = fault;
+  files = files;
+  idle = λ w. absurd (elim w [ inl three ↦ not_three outcome.status r.statuses three | inr four ↦ not_four outcome.status r.statuses four ]);
+  no_detail = λ s. elim s [ inl three ↦ absurd (not_three outcome.status r.statuses three) | inr six ↦ r.no_detail six ];
+  says = record { unread = []; not_read = λ three. absurd (not_three outcome.status r.statuses three); said = said; said_at_most = at_most; end_said = end_said };
+}
+  where
+    is_replay : IsReplay file trace before after outcome
+    is_replay = record {
+      bytes = loaded.bytes;
+      text = traced.bytes;
+      program = program;
+      stated = t;
+      read = loaded.read;
+      source = loaded.source;
+      read_trace = traced.read;
+      is_text = traced.text;
+      replay = r;
+    }
+
+    silent : IsCalm before after → outcome.status ≡ 7 → ⊥
+    silent calm seven = elim (fault seven) [ inl o ↦ calm.out o | inr e ↦ calm.err e ]
+
+    here : (bytes text : List ℕ) (other : Table) (stated : Trace) → IsGiven file bytes before → IsProgramOf bytes other → IsGiven trace text before → IsTextOfTrace stated text → Replays other stated → Replays program t
+    here bytes text other stated given_file source given_trace is_text replays =
+        same_replays program other stated t (found_program (told before.held file) 0 0 bytes given_file program other loaded source)
+        (found_trace (told before.held trace) text t stated given_trace traced is_text) replays
+
+    there : (bytes text : List ℕ) (other : Table) (stated : Trace) → IsGiven file bytes before → IsProgramOf bytes other → IsGiven trace text before → IsTextOfTrace stated text → Replays program t → Replays other stated
+    there bytes text other stated given_file source given_trace is_text replays =
+        same_replays other program t stated (sym (found_program (told before.held file) 0 0 bytes given_file program other loaded source))
+        (turn stated t (found_trace (told before.held trace) text t stated given_trace traced is_text)) replays

@@ -1,24 +1,31 @@
 -- From a run to its outcome.
-use Rattle.std.proofs.Common.{◌≡◌, ◌≢◌, ℕ, zero, suc, inl, inr, ◌∷◌, List, [], take, refl, sym, ◌∙◌, ap, arith}
-use Rattle.std.specs.Prelude.{Option, None, Some, unwrap_or}
+use Rattle.std.proofs.Common.{◌≡◌, ◌≢◌, ℕ, zero, suc, inl, inr, ◌∷◌, List, [], take, refl, sym, ◌∙◌, ap, subst, arith}
+use Rattle.std.specs.Prelude.{Bool, true, false, ◌==◌, if◌then◌else◌, Option, None, Some, IsSome, IfSome, unwrap_or, Result, Ok, Err, IsErr, OnOk}
 use Rattle.std.specs.Io.KnownBytes.{append_known}
-use Rattle.value_core.specs.Roomy.{Roomy}
-use Rattle.world_io.specs.Taken.{TookPrefix}
+use Rattle.world_io.specs.Taken.{CountsWrite, TookPrefix}
+use Rattle.world_io.specs.declared.sink.Failed.{Failed}
 use Rattle.world_io.proofs.TakenLemmas.{TookPrefix-none, append_known-nil}
-use Rattle.serial_model.specs.declared.entry.Entry.{Entry}
 use Rattle.serial_model.specs.declared.end.End.{End}
-use Rattle.core_syntax.specs.Table.{Table}
-use Rattle.serial_model.specs.State.{State, opening}
-use Rattle.serial_model.specs.Replay.{replay, replay_from, status}
-use Rattle.chocola.specs.declared.outcome.Detail.TheVariants.{Nothing}
-use Rattle.chocola.specs.Run.{setup_of, RunsTo}
-use Rattle.chocola.specs.Outcome.{Finished}
+use Rattle.serial_model.specs.State.{Setup, State, opening}
+use Rattle.serial_model.specs.Replay.{replay, replay_from, IsOver, status}
+use Rattle.serial_machine.specs.Progress.{Progress, state_of}
+use Rattle.chocola.specs.declared.outcome.Outcome.{Outcome}
+use Rattle.chocola.specs.Outcome.{Finished, end_unless_memory}
 use Rattle.chocola.specs.Written.{IsWritten}
+use Rattle.chocola.proofs.UnitsMade.{all_units_made}
+
+-- the state that is there
+pub the_state : (o : Option State) → IsSome o → (s : State) × (o ≡ Some s)
+the_state None is = absurd (cc)
+the_state (Some s) is = (s, refl)
+
+pub at_state : (o : Option State) (s : State) (P : State → Type 0) → o ≡ Some s → IfSome o P → P s
+at_state o s P e h = subst (λ x. IfSome x P) e h
 
 -- an empty history prints nothing
-no_bytes : (program : Table) (state : State) → replay (setup_of program) [] ≡ Some state → state.bytes ≡ []
+no_bytes : (setup : Setup) (state : State) → replay setup [] ≡ Some state → state.bytes ≡ []
 unfolding replay_from
-no_bytes program state e = ap (λ s. (unwrap_or s (opening (setup_of program))).bytes) (sym e)
+no_bytes setup state e = ap (λ s. (unwrap_or s (opening setup)).bytes) (sym e)
 
 take_nil : (n : ℕ) → take {A = ℕ} n [] ≡ []
 take_nil zero = refl
@@ -29,30 +36,99 @@ no_prefix : (old new : Option (List ℕ)) (text : List ℕ) → text ≡ [] → 
 no_prefix old new [] e took = took.2 ∙ ap (append_known old) (take_nil took.0) ∙ append_known-nil old
 no_prefix old new (b ∷ text) e took = absurd (cc)
 
-pub Finished-ended : (program : Table) (history : Roomy Entry) (output : List ℕ) (end : End) (s : ℕ) (old new : Option (List ℕ)) (before now : ℕ)
-    → RunsTo program history.items output (Some end) → TookPrefix old new output → (IsWritten s before now → new ≡ append_known old output) → (s ≢ 7 → status end ≡ s)
-    → Finished program old new before now (record { status = s; history = history; end = Some end; detail = Nothing })
-Finished-ended program history output end s old new before now run took whole ends = record {
-  state = run.state;
-  history_replays = run.history_replays;
-  end_is_the_replays = run.end_is_the_replays;
-  bytes_are_the_replays = rw (← run.bytes_are_the_replays) took;
-  none_without_entries = λ e. no_prefix old new output (run.bytes_are_the_replays ∙ no_bytes program run.state (rw e at run.history_replays)) took;
-  all_when_written = λ w. whole w ∙ ap (append_known old) run.bytes_are_the_replays;
-  status_is_the_ends = ends;
-}
+-- a run, as far as it came, with what was written of its bytes
+pub Finished-of : (p : Progress) (outcome : Outcome) (output : List ℕ) (old new : Option (List ℕ)) (before now : ℕ)
+    → outcome.history.items ≡ p.history → IsSome (state_of p) → IfSome (state_of p) (λ s. output ≡ s.bytes)
+    → IfSome (state_of p) (λ s. IfSome outcome.end (IsOver p.setup s))
+    → TookPrefix old new output → (IsWritten outcome.status before now → new ≡ append_known old output)
+    → (outcome.status ≢ 7 → IfSome outcome.end (λ e. status e ≡ outcome.status))
+    → Finished p.setup old new before now outcome
+Finished-of p outcome output old new before now entries is bytes over took whole ends =
+    let there = the_state (state_of p) is in
+    let same : output ≡ there.0.bytes = at_state (state_of p) there.0 (λ s. output ≡ s.bytes) there.1 bytes in
+    let replays : replay p.setup outcome.history.items ≡ Some there.0 = ap (replay p.setup) entries ∙ there.1 in
+    record {
+      state = there.0;
+      history_replays = replays;
+      end_is_the_replays = at_state (state_of p) there.0 (λ s. IfSome outcome.end (IsOver p.setup s)) there.1 over;
+      bytes_are_the_replays = subst (TookPrefix old new) same took;
+      none_without_entries = λ e. no_prefix old new output (same ∙ no_bytes p.setup there.0 (sym (ap (replay p.setup) e) ∙ replays)) took;
+      all_when_written = λ w. whole w ∙ ap (append_known old) same;
+      status_is_the_ends = ends;
+      units_are_made = λ e. all_units_made p.setup outcome.history.items there.0 replays
+          (subst (λ end. IfSome end (IsOver p.setup there.0)) e (at_state (state_of p) there.0 (λ s. IfSome outcome.end (IsOver p.setup s)) there.1 over));
+    }
 
-not_written_six : (before now : ℕ) → IsWritten 6 before now → ⊥
-not_written_six before now w = elim w [ inl e ↦ absurd (omega arith) | inr w ↦ elim w [ inl e ↦ absurd (omega arith) | inr w ↦ elim w [ inl e ↦ absurd (omega arith) | inr p ↦ absurd (omega (arith, p.0)) ] ] ]
+-- nothing is written for want of memory
+pub not_written_six : (s before now : ℕ) → s ≡ 6 → IsWritten s before now → ⊥
+not_written_six s before now six w = elim w [
+  | inl e ↦ absurd (omega (arith, e, six))
+  | inr w ↦ elim w [
+    | inl e ↦ absurd (omega (arith, e, six))
+    | inr w ↦ elim w [ inl e ↦ absurd (omega (arith, e, six)) | inr w ↦ elim w [ inl e ↦ absurd (omega (arith, e, six)) | inr p ↦ absurd (omega (arith, p.0, six)) ] ]
+  ]
+]
 
-pub Finished-stopped : (program : Table) (history : Roomy Entry) (output : List ℕ) (old : Option (List ℕ)) (before now : ℕ) (end : Option End)
-    → RunsTo program history.items output end → Finished program old old before now (record { status = 6; history = history; end = None; detail = Nothing })
-Finished-stopped program history output old before now end run = record {
-  state = run.state;
-  history_replays = run.history_replays;
-  end_is_the_replays = tt;
-  bytes_are_the_replays = TookPrefix-none old old run.state.bytes refl;
-  none_without_entries = λ e. refl;
-  all_when_written = λ w. absurd (not_written_six before now w);
-  status_is_the_ends = λ e. tt;
-}
+pub no_end : (o : Option State) (setup : Setup) (end : Option End) → end ≡ None → IfSome o (λ s. IfSome end (IsOver setup s))
+no_end None setup end e = tt
+no_end (Some s) setup None e = tt
+no_end (Some s) setup (Some end) e = absurd (cc)
+
+no_status : (end : Option End) (s : ℕ) → end ≡ None → IfSome end (λ e. status e ≡ s)
+no_status None s e = tt
+no_status (Some end) s e = absurd (cc)
+
+-- a run that stopped for want of memory
+pub Finished-stopped : (p : Progress) (outcome : Outcome) (old new : Option (List ℕ)) (before now : ℕ) → outcome.history.items ≡ p.history → IsSome (state_of p)
+    → outcome.status ≡ 6 → outcome.end ≡ None → new ≡ old → Finished p.setup old new before now outcome
+Finished-stopped p outcome old new before now entries is six none same =
+    let there = the_state (state_of p) is in
+    Finished-of p outcome there.0.bytes old new before now entries is (bytes (state_of p) there.0 there.1) (no_end (state_of p) p.setup outcome.end none)
+    (TookPrefix-none old new there.0.bytes same) (λ w. absurd (not_written_six outcome.status before now six w)) (λ e. no_status outcome.end outcome.status none)
+  where
+    bytes : (o : Option State) (s : State) → o ≡ Some s → IfSome o (λ t. s.bytes ≡ t.bytes)
+    bytes None s e = tt
+    bytes (Some t) s e = let same : t ≡ s = cc in ap (λ x. x.bytes) (sym same)
+
+-- the run that has not begun
+unfolding_opening : (setup : Setup) → IsSome (replay setup [])
+unfolding replay_from
+unfolding_opening setup = refl
+
+pub Finished-unbegun : (setup : Setup) (outcome : Outcome) (old new : Option (List ℕ)) (before now : ℕ) → outcome.history.items ≡ []
+    → outcome.status ≡ 6 → outcome.end ≡ None → new ≡ old → Finished setup old new before now outcome
+Finished-unbegun setup outcome old new before now entries six none same =
+    Finished-stopped (record { setup = setup; history = [] }) outcome old new before now entries (unfolding_opening setup) six none same
+
+of_unless : (b : Bool) (end : End) (P : End → Type 0) → P end → IfSome (if b then None else Some end) P
+of_unless true end P h = tt
+of_unless false end P h = h
+
+-- the end of a run is left out for want of memory
+pub over_unless : (p : Progress) (s : ℕ) (end : End) (found : Option End) → found ≡ end_unless_memory s end → IfSome (state_of p) (λ st. IsOver p.setup st end)
+    → IfSome (state_of p) (λ st. IfSome found (IsOver p.setup st))
+over_unless p s end found e over = on (state_of p) over
+  where
+    on : (o : Option State) → IfSome o (λ st. IsOver p.setup st end) → IfSome o (λ st. IfSome found (IsOver p.setup st))
+    on None h = tt
+    on (Some st) h = rw e (of_unless (s == 6) end (IsOver p.setup st) h)
+
+pub status_unless : (s t : ℕ) (end : End) (found : Option End) → found ≡ end_unless_memory s end → t ≡ s → (s ≢ 7 → s ≢ 6 → status end ≡ s) → t ≢ 7 → IfSome found (λ e. status e ≡ t)
+status_unless s t end found e same ends not_seven = rw (e, same) (on (s == 6) refl)
+  where
+    on : (b : Bool) → b ≡ (s == 6) → IfSome (if b then None else Some end) (λ e. status e ≡ s)
+    on true is = tt
+    on false is = ends (λ seven. not_seven (same ∙ seven)) (λ six. absurd (let x : false ≡ true = is ∙ ap (λ n. n == 6) six in cc))
+
+-- the bytes of a run that are written in full were taken whole
+pub wrote_whole : (written : Result Unit Failed) (s before now : ℕ) (P : Type 0) → CountsWrite written before now → (IsErr written → s ≡ 7) → OnOk written P → IsWritten s before now → P
+wrote_whole (Ok x) s before now P counts fails whole w = whole
+wrote_whole (Err failed) s before now P counts fails whole w =
+    let seven : s ≡ 7 = fails refl in
+    absurd (elim w [
+      | inl e ↦ omega (arith, e, seven)
+      | inr w ↦ elim w [
+        | inl e ↦ omega (arith, e, seven)
+        | inr w ↦ elim w [ inl e ↦ omega (arith, e, seven) | inr w ↦ elim w [ inl e ↦ omega (arith, e, seven) | inr p ↦ p.1 counts ] ]
+      ]
+    ])

@@ -1,7 +1,12 @@
 pub mod Answered
-pub mod Pieces
-pub mod Loading
-pub mod Runs
+pub mod Answering
+pub mod Checking
 pub mod Finishes
+pub mod Loading
+pub mod Pieces
+pub mod Replaying
 pub mod Said
-pub mod Waits
+pub mod Stuck
+pub mod Tracing
+pub mod UnitsMade
+pub mod Unreplayed

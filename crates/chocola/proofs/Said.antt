@@ -2,40 +2,27 @@
 use Rattle.std.proofs.Common.{◌≡◌, ℕ, List, [], refl, inl, inr}
 use Rattle.std.specs.Prelude.{◌⊎◌, Option, Some}
 use Rattle.serial_model.specs.declared.end.End.{End}
-use Rattle.chocola.specs.declared.outcome.Detail.{Detail}
+use Rattle.chocola.specs.declared.outcome.Detail.TheVariants.{Nothing}
 use Rattle.chocola.specs.declared.load.LoadNo.{LoadNo}
-use Rattle.chocola.specs.declared.load.LoadNo.TheVariants.{Failed, Absent, Refused, OutOfScope, Memory}
-use Rattle.chocola.specs.Words.{file_of}
+use Rattle.chocola.specs.declared.load.LoadNo.TheVariants.{NotRead, Refused, OutOfScope, Memory}
 use Rattle.chocola.specs.Lines.{line_of, line_begun, load_line}
-use Rattle.chocola.specs.Outcome.{IsEnded, load_status, load_detail}
+use Rattle.chocola.specs.Outcome.{IsEnded, end_unless_memory, load_status, load_detail}
 
-pub line_of-load : (words : List (List ℕ)) (name : List ℕ) (error : LoadNo) (end : Option End) → file_of words ≡ Some name → line_of words (load_status error) (load_detail error) end ≡ load_line name error
-line_of-load words name Failed end e = rw e refl
-line_of-load words name Absent end e = rw e refl
-line_of-load words name (Refused kind at) end e = refl
-line_of-load words name (OutOfScope kind at) end e = refl
-line_of-load words name Memory end e = refl
+pub line_of-load : (name : List ℕ) (error : LoadNo) (end : Option End) → line_of name (load_status error) (load_detail error) end ≡ load_line name error
+line_of-load name NotRead end = refl
+line_of-load name (Refused kind at) end = refl
+line_of-load name (OutOfScope kind at) end = refl
+line_of-load name Memory end = refl
 
-pub line_begun-load : (words : List (List ℕ)) (name : List ℕ) (error : LoadNo) (end : Option End) → file_of words ≡ Some name → line_begun words (load_status error) (load_detail error) end ≡ load_line name error
-line_begun-load words name Failed end e = rw e refl
-line_begun-load words name Absent end e = rw e refl
-line_begun-load words name (Refused kind at) end e = refl
-line_begun-load words name (OutOfScope kind at) end e = refl
-line_begun-load words name Memory end e = refl
+pub line_begun-load : (name : List ℕ) (error : LoadNo) (end : Option End) → line_begun name (load_status error) (load_detail error) end ≡ load_line name error
+line_begun-load name NotRead end = refl
+line_begun-load name (Refused kind at) end = refl
+line_begun-load name (OutOfScope kind at) end = refl
+line_begun-load name Memory end = refl
 
--- the statuses that a program of the words' file leads to
-abbrev pub IsOfProgram : ℕ → Type 0
-IsOfProgram s = IsEnded s ⊎ ((s ≡ 4) ⊎ (s ≡ 6))
-
--- the line of what is found in a program doesn't depend on the words
-pub line_of-any : (words : List (List ℕ)) (s : ℕ) (detail : Detail) (end : Option End) → IsOfProgram s → line_of [] s detail end ≡ line_of words s detail end
-line_of-any words s detail end h = elim h [
+-- the line that a run begins doesn't depend on its end where that is left out
+pub line_begun-unless : (s : ℕ) (end : End) → IsEnded s ⊎ (s ≡ 6) → line_begun [] s Nothing (Some end) ≡ line_begun [] s Nothing (end_unless_memory s end)
+line_begun-unless s end h = elim h [
   | inl e ↦ elim e [ inl z ↦ rw z refl | inr e ↦ elim e [ inl o ↦ rw o refl | inr e ↦ elim e [ inl f ↦ rw f refl | inr n ↦ rw n refl ] ] ]
-  | inr e ↦ elim e [ inl f ↦ rw f refl | inr m ↦ rw m refl ]
-]
-
-pub line_begun-any : (words : List (List ℕ)) (s : ℕ) (detail : Detail) (end : Option End) → IsOfProgram s → line_begun [] s detail end ≡ line_begun words s detail end
-line_begun-any words s detail end h = elim h [
-  | inl e ↦ elim e [ inl z ↦ rw z refl | inr e ↦ elim e [ inl o ↦ rw o refl | inr e ↦ elim e [ inl f ↦ rw f refl | inr n ↦ rw n refl ] ] ]
-  | inr e ↦ elim e [ inl f ↦ rw f refl | inr m ↦ rw m refl ]
+  | inr m ↦ rw m refl
 ]

@@ -1,8 +1,15 @@
 pub mod Check
+pub mod CheckAnswers
+pub mod Fetch
 pub mod Lines
 pub mod Load
+pub mod NoAnswers
 pub mod Outcome
 pub mod Program
-pub mod Run
-pub mod Words
+pub mod ReplayAnswers
+pub mod Replayed
+pub mod RunAnswers
+pub mod Seen
+pub mod SourceAnswers
+pub mod Traced
 pub mod Written

@@ -6,13 +6,17 @@ use Rattle.value_core.specs.declared.code.Code.TheVariants as code
 use Rattle.serial_model.specs.declared.end.End.{End}
 use Rattle.serial_model.specs.declared.end.End.TheVariants as end
 use Rattle.chocola.specs.declared.outcome.Part.{Part}
-use Rattle.chocola.specs.declared.outcome.Part.TheVariants.{Source, Scope}
+use Rattle.chocola.specs.declared.outcome.Part.TheVariants.{Source, Scope, Trace}
 use Rattle.chocola.specs.declared.outcome.Detail.{Detail}
-use Rattle.chocola.specs.declared.outcome.Detail.TheVariants.{Nothing, Refused}
+use Rattle.chocola.specs.declared.outcome.Detail.TheVariants.{Nothing, Refused, Differs}
 use Rattle.chocola.specs.declared.load.LoadNo.{LoadNo}
 use Rattle.chocola.specs.declared.load.LoadNo.TheVariants as load
-use Rattle.chocola.specs.Outcome.{refused_as, out_of_scope}
-use Rattle.chocola.specs.Words.{file_of}
+use Rattle.chocola.specs.declared.load_replay.GivenNo.{GivenNo}
+use Rattle.chocola.specs.declared.load_replay.GivenNo.TheVariants as given
+use Rattle.chocola.specs.Outcome.{refused_as, out_of_scope, refused_trace}
+
+abbrev pub one_after_another : List (List ℕ) → List ℕ
+one_after_another pieces = flat_map (λ piece. piece) pieces
 
 abbrev pub usage_line : List ℕ
 usage_line = codes "chocola: bad command line\n"
@@ -23,7 +27,7 @@ cannot_read_line name = codes "cannot read " ++ name ++ codes "\n"
 abbrev pub memory_line : List ℕ
 memory_line = codes "out of memory\n"
 
--- the name of the refusal with that number, of the source's text or of its scope
+-- the name of the refusal with that number, of the source's text, of its scope or of a trace
 abbrev pub kind_name : Part → ℕ → List ℕ
 kind_name Source kind =
     if kind == 1 then codes "BadByte"
@@ -41,19 +45,31 @@ kind_name Scope kind =
     else (if kind == 4 then codes "BadForm"
     else (if kind == 5 then codes "EarlyGlobal"
     else (if kind == 6 then codes "TooManyNodes"
-    else (if kind == 7 then codes "NotYet"
-    else []))))))
+    else [])))))
+kind_name Trace kind =
+    if kind == 1 then codes "BadLine"
+    else (if kind == 2 then codes "TooLong"
+    else [])
 
 abbrev pub source_line : Part → ℕ → ℕ → ℕ → List ℕ
 source_line part kind line column = codes "source " ++ decimal line ++ codes ":" ++ decimal column ++ codes " " ++ kind_name part kind ++ codes "\n"
 
-abbrev pub refused_line : Detail → List ℕ
-refused_line Nothing = []
-refused_line (Refused part kind line column) = source_line part kind line column
+abbrev pub trace_line : ℕ → ℕ → List ℕ
+trace_line kind line = codes "trace " ++ decimal line ++ codes " " ++ kind_name Trace kind ++ codes "\n"
 
-abbrev pub not_read_line : Option (List ℕ) → List ℕ
-not_read_line None = []
-not_read_line (Some name) = cannot_read_line name
+abbrev pub part_line : Part → ℕ → ℕ → ℕ → List ℕ
+part_line Source kind line column = source_line Source kind line column
+part_line Scope kind line column = source_line Scope kind line column
+part_line Trace kind line column = trace_line kind line
+
+abbrev pub differs_line : ℕ → List ℕ
+differs_line line = one_after_another (codes "replay differs at line " ∷ decimal line ∷ codes "\n" ∷ [])
+
+-- the line of a detail
+abbrev pub detail_line : Detail → List ℕ
+detail_line Nothing = []
+detail_line (Refused part kind line column) = part_line part kind line column
+detail_line (Differs line stated found) = differs_line line
 
 -- the number and the name of a fault code
 abbrev pub code_number : Code → ℕ
@@ -80,9 +96,6 @@ code_name code.ForkTooDeep = codes "ForkTooDeep"
 code_name code.TooDeep = codes "TooDeep"
 code_name code.MessageArity = codes "MessageArity"
 
-abbrev pub one_after_another : List (List ℕ) → List ℕ
-one_after_another pieces = flat_map (λ piece. piece) pieces
-
 abbrev pub fault_line : Code → ℕ → ℕ → List ℕ → List ℕ
 fault_line failed line column unit =
     one_after_another (codes "fault " ∷ decimal (code_number failed) ∷ codes " " ∷ code_name failed ∷ codes " at " ∷ decimal line ∷ codes ":" ∷ decimal column
@@ -96,30 +109,43 @@ abbrev pub end_line : End → List ℕ
 end_line end.Done = []
 end_line (end.Fault failed at unit) = fault_line failed at.line at.column unit
 end_line (end.Spent unit) = spent_line unit
+end_line end.UnitsSpent = codes "spent units\n"
 
 abbrev pub ended_line : Option End → List ℕ
 ended_line None = []
 ended_line (Some end) = end_line end
 
--- the line of an outcome with that status, detail and end, or nothing
-abbrev pub line_of : List (List ℕ) → ℕ → Detail → Option End → List ℕ
-line_of words status detail end =
+-- the line of an outcome with that status, detail and end, or nothing; `unread` is the name that was not read
+abbrev pub line_of : List ℕ → ℕ → Detail → Option End → List ℕ
+line_of unread status detail end =
     if status == 1 then ended_line end
     else if status == 2 then usage_line
-    else if status == 3 then not_read_line (file_of words)
-    else if status == 4 then refused_line detail
+    else if status == 3 then cannot_read_line unread
+    else if status == 4 then detail_line detail
     else if status == 5 then ended_line end
     else if status == 6 then memory_line
+    else if status == 8 then detail_line detail
     else []
 
--- the line that was begun: where something was not written, it may be a front of the line of the end
-abbrev pub line_begun : List (List ℕ) → ℕ → Detail → Option End → List ℕ
-line_begun words status detail end = if status == 7 then ended_line end else line_of words status detail end
+-- the line of a run or a replay that was begun where something was not written
+abbrev pub last_line : Detail → Option End → List ℕ
+last_line Nothing end = ended_line end
+last_line (Refused part kind line column) end = []
+last_line (Differs line stated found) end = differs_line line
+
+-- the line that was begun: where something was not written, it may be a front of that last line
+abbrev pub line_begun : List ℕ → ℕ → Detail → Option End → List ℕ
+line_begun unread status detail end = if status == 7 then last_line detail end else line_of unread status detail end
 
 -- the line where the file of that name gives no program
 abbrev pub load_line : List ℕ → LoadNo → List ℕ
-load_line name load.Failed = cannot_read_line name
-load_line name load.Absent = cannot_read_line name
-load_line name (load.Refused kind at) = refused_line (refused_as kind at)
-load_line name (load.OutOfScope kind at) = refused_line (out_of_scope kind at)
+load_line name load.NotRead = cannot_read_line name
+load_line name (load.Refused kind at) = detail_line (refused_as kind at)
+load_line name (load.OutOfScope kind at) = detail_line (out_of_scope kind at)
 load_line name load.Memory = memory_line
+
+-- and so where there is no replay of these files
+abbrev pub given_line : List ℕ → List ℕ → GivenNo → List ℕ
+given_line file trace (given.Source error) = load_line file error
+given_line file trace given.TraceNotRead = cannot_read_line trace
+given_line file trace (given.TraceRefused kind line) = detail_line (refused_trace kind line)

@@ -1,7 +1,9 @@
--- What is answered to the reading of a program's file.
-use Rattle.std.specs.Prelude.{◌≡◌, ℕ, List, Option, None, Some, Result, Ok, Err, IfSome, IsSomeAnd}
+-- What is answered to the reading of a program's file, and of a trace's.
+use Rattle.std.specs.Prelude.{◌≡◌, ◌≢◌, ℕ, ◌⊎◌, List, Option, None, Some, Result, Ok, Err, IfSome, IsSomeAnd}
 use Rattle.value_core.specs.Place.{Spot}
+use Rattle.sexpr_reader.specs.Cursor.{start}
 use Rattle.sexpr_reader.specs.declared.error.ReadKind.{ReadKind}
+use Rattle.sexpr_reader.specs.declared.error.ReadKind.TheVariants as read_kind
 use Rattle.sexpr_reader.specs.declared.error.ReadNo.{ReadNo}
 use Rattle.sexpr_reader.specs.declared.error.ReadNo.TheVariants as read
 use Rattle.sexpr_reader.specs.declared.form.Form.{Form}
@@ -10,12 +12,23 @@ use Rattle.scope_check.specs.declared.error.ScopeKind.{ScopeKind}
 use Rattle.scope_check.specs.declared.error.ScopeNo.{ScopeNo}
 use Rattle.scope_check.specs.declared.error.ScopeNo.TheVariants as scope
 use Rattle.scope_check.specs.Check.{IsProgram, IsRefused as IsScopeRefused}
+use Rattle.serial_model.specs.Trace.{IsTextOfTrace, trace_refusal}
+use Rattle.serial_model.specs.declared.trace.Trace.{Trace}
+use Rattle.serial_model.specs.declared.trace.LineKind.{LineKind}
+use Rattle.serial_model.specs.declared.trace.LineKind.TheVariants as line_kind
+use Rattle.trace_text.specs.declared.error.TraceNo.{TraceNo}
+use Rattle.trace_text.specs.declared.error.TraceNo.TheVariants as trace
 use Rattle.world_io.specs.Counts.{Rose}
 use Rattle.world_io.specs.Held.{IsHeld}
 use Rattle.core_syntax.specs.Table.{Table}
 use Rattle.chocola.specs.Program.{IsProgramOf}
+use Rattle.chocola.specs.declared.fetch.Fetched.{Fetched}
+use Rattle.chocola.specs.declared.fetch.Fetched.TheVariants.{Bytes, TooLong}
 use Rattle.chocola.specs.declared.load.LoadNo.{LoadNo}
-use Rattle.chocola.specs.declared.load.LoadNo.TheVariants.{Failed, Absent, Refused, OutOfScope, Memory}
+use Rattle.chocola.specs.declared.load.LoadNo.TheVariants.{NotRead, Refused, OutOfScope, Memory}
+use Rattle.chocola.specs.declared.load_replay.Given.{Given}
+use Rattle.chocola.specs.declared.load_replay.GivenNo.{GivenNo}
+use Rattle.chocola.specs.declared.load_replay.GivenNo.TheVariants as given
 
 -- the bytes held are refused with that kind at that place, where it is told what is held
 abbrev pub IsDue : Option (Option (List ℕ)) → ReadKind → Spot → Type 0
@@ -27,19 +40,22 @@ pub record IsLoaded (found : Option (Option (List ℕ))) (program : Table) : Typ
   pub read : IsHeld found bytes
   pub source : IsProgramOf bytes program
 
--- the bytes held are a source whose forms are refused by scope, with that kind at that place
-pub record IsScopeDue (found : Option (Option (List ℕ))) (kind : ScopeKind) (at : Spot) : Type 0 where
-  pub bytes : List ℕ
+-- the bytes are a source whose forms are refused by scope, with that kind at that place
+pub record IsOutOfScope (bytes : List ℕ) (kind : ScopeKind) (at : Spot) : Type 0 where
   pub forms : List Form
-  pub read : IsHeld found bytes
   pub source : IsSource bytes forms
   pub due : IsScopeRefused forms kind at
+
+-- the bytes held are such a source
+pub record IsScopeDue (found : Option (Option (List ℕ))) (kind : ScopeKind) (at : Spot) : Type 0 where
+  pub bytes : List ℕ
+  pub read : IsHeld found bytes
+  pub refused : IsOutOfScope bytes kind at
 
 -- the cause of each answer, where `found` is what is told of the file and the count of read faults was `before`
 abbrev pub Loads : Option (Option (List ℕ)) → ℕ → ℕ → Result Table LoadNo → Type 0
 Loads found before now (Ok program) = IsLoaded found program
-Loads found before now (Err Failed) = Rose before now
-Loads found before now (Err Absent) = found ≡ Some None
+Loads found before now (Err NotRead) = Rose before now ⊎ (found ≡ Some None)
 Loads found before now (Err (Refused kind at)) = IsDue found kind at
 Loads found before now (Err (OutOfScope kind at)) = IsScopeDue found kind at
 Loads found before now (Err Memory) = Unit {0}
@@ -55,8 +71,58 @@ scope_error (scope.Refused kind at) = OutOfScope kind at
 scope_error scope.Memory = Memory
 
 -- what becomes of the forms of a source; want of memory is free
-abbrev pub Gives : List Form → Result Table LoadNo → Type 0
-Gives forms (Ok program) = IsProgram forms program
-Gives forms (Err (OutOfScope kind at)) = IsScopeRefused forms kind at
-Gives forms (Err Memory) = Unit {0}
-Gives forms (Err error) = ⊥
+abbrev pub GivesForms : List Form → Result Table LoadNo → Type 0
+GivesForms forms (Ok program) = IsProgram forms program
+GivesForms forms (Err (OutOfScope kind at)) = IsScopeRefused forms kind at
+GivesForms forms (Err Memory) = Unit {0}
+GivesForms forms (Err error) = ⊥
+
+-- what becomes of the text of a source
+abbrev pub GivesText : List ℕ → Result Table LoadNo → Type 0
+GivesText bytes (Ok program) = IsProgramOf bytes program
+GivesText bytes (Err (Refused kind at)) = IsRefused bytes kind at
+GivesText bytes (Err (OutOfScope kind at)) = IsOutOfScope bytes kind at
+GivesText bytes (Err Memory) = Unit {0}
+GivesText bytes (Err error) = ⊥
+
+-- what becomes of a file that was read; one over the limit is refused at its start
+abbrev pub GivesFile : Fetched → Result Table LoadNo → Type 0
+GivesFile (Bytes bytes) answer = GivesText bytes.items answer
+GivesFile TooLong (Err (Refused kind at)) = (kind ≡ read_kind.TooLong) × (at ≡ start)
+GivesFile TooLong answer = ⊥
+
+-- the bytes held are the text of the trace
+pub record IsTraced (found : Option (Option (List ℕ))) (trace : Trace) : Type 0 where
+  pub bytes : List ℕ
+  pub read : IsHeld found bytes
+  pub text : IsTextOfTrace trace bytes
+
+-- the bytes held are refused as a trace, with that kind at that line, where it is told what is held
+abbrev pub IsTraceDue : Option (Option (List ℕ)) → LineKind → ℕ → Type 0
+IsTraceDue found kind line = IfSome found (λ held. IsSomeAnd held (λ bytes. trace_refusal bytes kind line))
+
+-- what becomes of a trace's file that was read; one over the limit is refused at its first line
+abbrev pub GivesTrace : Fetched → Result Trace TraceNo → Type 0
+GivesTrace (Bytes bytes) (Ok t) = IsTextOfTrace t bytes.items
+GivesTrace (Bytes bytes) (Err (trace.Refused kind line)) = trace_refusal bytes.items kind line
+GivesTrace (Bytes bytes) (Err trace.Memory) = Unit {0}
+GivesTrace TooLong (Err (trace.Refused kind line)) = (kind ≡ line_kind.TooLong) × (line ≡ 1)
+GivesTrace TooLong answer = ⊥
+
+-- The cause of each answer to the reading of a program and of a trace: both are read, in this order, before one is
+-- checked, and the program is checked first.
+abbrev pub LoadsBoth : Option (Option (List ℕ)) → Option (Option (List ℕ)) → ℕ → ℕ → Result Given GivenNo → Type 0
+LoadsBoth file trace before now (Ok both) = IsLoaded file both.program × IsTraced trace both.trace
+LoadsBoth file trace before now (Err (given.Source NotRead)) = Rose before now ⊎ (file ≡ Some None)
+LoadsBoth file trace before now (Err (given.Source Memory)) = Unit {0}
+LoadsBoth file trace before now (Err (given.Source error)) = (trace ≢ Some None) × Loads file before now (Err error)
+LoadsBoth file trace before now (Err given.TraceNotRead) = (file ≢ Some None) × (Rose before now ⊎ (trace ≡ Some None))
+LoadsBoth file trace before now (Err (given.TraceRefused kind line)) = ((program : Table) × IsLoaded file program) × IsTraceDue trace kind line
+
+-- what becomes of both files where they were read
+abbrev pub GivesBoth : Fetched → Fetched → Result Given GivenNo → Type 0
+GivesBoth source text (Ok both) = GivesFile source (Ok both.program) × GivesTrace text (Ok both.trace)
+GivesBoth source text (Err (given.Source Memory)) = Unit {0}
+GivesBoth source text (Err (given.Source error)) = GivesFile source (Err error)
+GivesBoth source text (Err (given.TraceRefused kind line)) = ((program : Table) × GivesFile source (Ok program)) × GivesTrace text (Err (trace.Refused kind line))
+GivesBoth source text (Err given.TraceNotRead) = ⊥

@@ -2,6 +2,6 @@
 use Rattle.std.specs.Prelude.{◌≡◌, ℕ, ◌⊎◌}
 use Rattle.world_io.specs.Counts.{Rose}
 
--- all bytes of a run or a check are written: it came to its end, and writing them counted no fault
+-- all bytes are written: the command came to its end, and writing them counted no fault
 abbrev pub IsWritten : ℕ → ℕ → ℕ → Type 0
-IsWritten s before now = (s ≡ 0) ⊎ ((s ≡ 1) ⊎ ((s ≡ 5) ⊎ ((s ≡ 7) × (Rose before now → ⊥))))
+IsWritten s before now = (s ≡ 0) ⊎ ((s ≡ 1) ⊎ ((s ≡ 5) ⊎ ((s ≡ 8) ⊎ ((s ≡ 7) × (Rose before now → ⊥)))))

@@ -2,7 +2,7 @@ ghost use Rattle.std.specs.Prelude.{◌≡◌, ◌≤◌, flat_map, IfOk, OnOk};
 ghost use Rattle.std.specs.Io.KnownBytes.{append_known};
 ghost use Rattle.world_io.specs.Taken.{CountsWrite, TookPrefix, Said};
 ghost use Rattle.chocola.specs.Check.{check_line, count_line};
-ghost use Rattle.chocola.specs.Lines.{usage_line, cannot_read_line, memory_line, refused_line, source_line, kind_name, code_name, code_number, end_line, fault_line};
+ghost use Rattle.chocola.specs.Lines.{usage_line, cannot_read_line, memory_line, detail_line, part_line, source_line, trace_line, differs_line, kind_name, code_name, code_number, end_line, fault_line};
 
 use crate::outcome::{Detail, Part};
 use core_syntax::Program;
@@ -39,31 +39,71 @@ pub fn say_not_read<E: Sink>(err: &mut E, name: &[u8])
     say(err, &[b"cannot read ", name, b"\n"]);
 }
 
-/// Says what is refused, and nothing of another detail.
-pub fn say_refused<E: Sink>(err: &mut E, detail: Detail)
-    ensures prefix { TookPrefix (E.taken err.old) (E.taken err.new) (refused_line detail) }
-    ensures said { Said (E.taken err.old) (E.taken err.new) (E.faults err.old) (E.faults err.new) (refused_line detail) }
+/// Says what is refused.
+pub fn say_refused<E: Sink>(err: &mut E, detail: &Detail)
+    ensures prefix { TookPrefix (E.taken err.old) (E.taken err.new) (detail_line detail.now) }
+    ensures said { Said (E.taken err.old) (E.taken err.new) (E.faults err.old) (E.faults err.new) (detail_line detail.now) }
+    ensures later { E.faults err.old ≤ E.faults err.new }
+{
+    let _ = write_detail(err, detail);
+}
+
+/// Writes the line of the detail. `Failed` comes only where the count of the sink's faults rose.
+pub fn write_detail<E: Sink>(err: &mut E, detail: &Detail) -> Result<(), Failed>
+    ensures whole { OnOk result (E.taken err.new ≡ append_known (E.taken err.old) (detail_line detail.now)) }
+    ensures prefix { TookPrefix (E.taken err.old) (E.taken err.new) (detail_line detail.now) }
+    ensures said { Said (E.taken err.old) (E.taken err.new) (E.faults err.old) (E.faults err.new) (detail_line detail.now) }
+    ensures counts { CountsWrite result (E.faults err.old) (E.faults err.new) }
     ensures later { E.faults err.old ≤ E.faults err.new }
 {
     match detail {
-        Detail::Nothing => say(err, &[]),
+        Detail::Nothing => write_pieces(err, &[]),
         Detail::Refused {
             part,
             kind,
             line,
             column,
-        } => say_source(err, part, kind, line, column),
+        } => write_refusal(err, *part, *kind, *line, *column),
+        Detail::Differs { line, .. } => write_differs(err, *line),
     }
 }
 
-fn say_source<E: Sink>(err: &mut E, part: Part, kind: u8, line: u64, column: u64)
+fn write_refusal<E: Sink>(
+    err: &mut E,
+    part: Part,
+    kind: u8,
+    line: u64,
+    column: u64,
+) -> Result<(), Failed>
+    ensures whole { OnOk result (E.taken err.new ≡ append_known (E.taken err.old) (part_line part kind line column)) }
+    ensures prefix { TookPrefix (E.taken err.old) (E.taken err.new) (part_line part kind line column) }
+    ensures said { Said (E.taken err.old) (E.taken err.new) (E.faults err.old) (E.faults err.new) (part_line part kind line column) }
+    ensures counts { CountsWrite result (E.faults err.old) (E.faults err.new) }
+    ensures later { E.faults err.old ≤ E.faults err.new }
+{
+    match part {
+        Part::Source => write_source(err, part, kind, line, column),
+        Part::Scope => write_source(err, part, kind, line, column),
+        Part::Trace => write_trace_line(err, kind, line),
+    }
+}
+
+fn write_source<E: Sink>(
+    err: &mut E,
+    part: Part,
+    kind: u8,
+    line: u64,
+    column: u64,
+) -> Result<(), Failed>
+    ensures whole { OnOk result (E.taken err.new ≡ append_known (E.taken err.old) (source_line part kind line column)) }
     ensures prefix { TookPrefix (E.taken err.old) (E.taken err.new) (source_line part kind line column) }
     ensures said { Said (E.taken err.old) (E.taken err.new) (E.faults err.old) (E.faults err.new) (source_line part kind line column) }
+    ensures counts { CountsWrite result (E.faults err.old) (E.faults err.new) }
     ensures later { E.faults err.old ≤ E.faults err.new }
 {
     let mut line_digits = Buffer::new();
     let mut column_digits = Buffer::new();
-    say(
+    write_pieces(
         err,
         &[
             b"source ",
@@ -74,7 +114,45 @@ fn say_source<E: Sink>(err: &mut E, part: Part, kind: u8, line: u64, column: u64
             kind_name(part, kind).as_bytes(),
             b"\n",
         ],
-    );
+    )
+}
+
+fn write_trace_line<E: Sink>(err: &mut E, kind: u8, line: u64) -> Result<(), Failed>
+    ensures whole { OnOk result (E.taken err.new ≡ append_known (E.taken err.old) (trace_line kind line)) }
+    ensures prefix { TookPrefix (E.taken err.old) (E.taken err.new) (trace_line kind line) }
+    ensures said { Said (E.taken err.old) (E.taken err.new) (E.faults err.old) (E.faults err.new) (trace_line kind line) }
+    ensures counts { CountsWrite result (E.faults err.old) (E.faults err.new) }
+    ensures later { E.faults err.old ≤ E.faults err.new }
+{
+    let mut line_digits = Buffer::new();
+    write_pieces(
+        err,
+        &[
+            b"trace ",
+            line_digits.format(line).as_bytes(),
+            b" ",
+            trace_kind_name(kind).as_bytes(),
+            b"\n",
+        ],
+    )
+}
+
+fn write_differs<E: Sink>(err: &mut E, line: u64) -> Result<(), Failed>
+    ensures whole { OnOk result (E.taken err.new ≡ append_known (E.taken err.old) (differs_line line)) }
+    ensures prefix { TookPrefix (E.taken err.old) (E.taken err.new) (differs_line line) }
+    ensures said { Said (E.taken err.old) (E.taken err.new) (E.faults err.old) (E.faults err.new) (differs_line line) }
+    ensures counts { CountsWrite result (E.faults err.old) (E.faults err.new) }
+    ensures later { E.faults err.old ≤ E.faults err.new }
+{
+    let mut line_digits = Buffer::new();
+    write_pieces(
+        err,
+        &[
+            b"replay differs at line ",
+            line_digits.format(line).as_bytes(),
+            b"\n",
+        ],
+    )
 }
 
 /// Writes how many functions, behaviours and globals the program has. `Failed` comes only where the count of the sink's
@@ -159,6 +237,7 @@ pub fn end_line(alloc: Global, end: &End) -> Result<Vec<u8>, AllocError>
             let unit = unit.text(alloc)?;
             joined(alloc, &[b"spent fuel in ", unit.items(), b"\n"])
         }
+        End::UnitsSpent => Vec::from_slice(alloc, b"spent units\n"),
     }
 }
 
@@ -247,6 +326,7 @@ fn kind_name(part: Part, kind: u8) -> &'static str
     match part {
         Part::Source => text_kind_name(kind),
         Part::Scope => scope_kind_name(kind),
+        Part::Trace => trace_kind_name(kind),
     }
 }
 
@@ -275,7 +355,16 @@ fn scope_kind_name(kind: u8) -> &'static str
         4 => "BadForm",
         5 => "EarlyGlobal",
         6 => "TooManyNodes",
-        7 => "NotYet",
+        _ => "",
+    }
+}
+
+fn trace_kind_name(kind: u8) -> &'static str
+    ensures { result.now ≡ kind_name Part.Trace kind }
+{
+    match kind {
+        1 => "BadLine",
+        2 => "TooLong",
         _ => "",
     }
 }

@@ -1,25 +1,23 @@
 ghost use Rattle.std.specs.Prelude.{◌≡◌, ◌≤◌};
 ghost use Rattle.sexpr_reader.specs.Cursor.{start};
 ghost use Rattle.world_io.specs.Held.{told};
-ghost use Rattle.chocola.specs.Load.{Loads, Gives, load_error, scope_error};
+ghost use Rattle.chocola.specs.Load.{Loads, GivesFile, GivesForms, GivesText, load_error, scope_error};
 
+use crate::fetch::{FetchNo, Fetched, fetch};
 use core_syntax::Program;
 use scope_check::{ScopeKind, ScopeNo, check};
 use sexpr_reader::{Forms, ReadKind, ReadNo, SOURCE_LIMIT, read};
 use std::alloc::Global;
 use thiserror::Error;
 use value_core::{Place, Text};
-use world_io::{FileNo, Files};
+use world_io::Files;
 
 /// Why a file gives no program.
 #[derive(Debug, Drop, Error)]
 pub enum LoadNo {
-    /// The file was not read, and the files counted a fault.
+    /// Nothing is held under the name, or the files counted a fault.
     #[error("the file was not read")]
-    Failed,
-    /// No file is held under the name.
-    #[error("there is no such file")]
-    Absent,
+    NotRead,
     /// The source is refused, with the kind of the refusal and its place.
     #[error("the source is refused")]
     Refused { kind: ReadKind, at: Place },
@@ -38,14 +36,28 @@ pub fn load<F: Files>(alloc: Global, files: &mut F, name: &Text) -> Result<Progr
     ensures writes { F.write_faults files.new ≡ F.write_faults files.old }
     ensures same { F.held files.new ≡ F.held files.old }
 {
-    let bytes = match files.read(alloc, name, SOURCE_LIMIT) {
-        Ok(bytes) => bytes,
-        Err(FileNo::Failed) => return Err(LoadNo::Failed),
-        Err(FileNo::Absent) => return Err(LoadNo::Absent),
-        Err(FileNo::TooLong) => return Err(too_long()),
-        Err(FileNo::Memory) => return Err(LoadNo::Memory),
-    };
-    match read(alloc, bytes.as_slice()) {
+    match fetch(alloc, files, name, SOURCE_LIMIT) {
+        Ok(file) => program_of(alloc, &file),
+        Err(FetchNo::NotRead) => Err(LoadNo::NotRead),
+        Err(FetchNo::Memory) => Err(LoadNo::Memory),
+    }
+}
+
+/// The program of a file that was read.
+pub fn program_of(alloc: Global, file: &Fetched) -> Result<Program, LoadNo>
+    ensures { GivesFile file.now result }
+{
+    match file {
+        Fetched::Bytes(bytes) => program_in(alloc, bytes.as_slice()),
+        Fetched::TooLong => Err(too_long()),
+    }
+}
+
+/// The program of the source with these bytes.
+fn program_in(alloc: Global, bytes: &[u8]) -> Result<Program, LoadNo>
+    ensures { GivesText bytes.now result }
+{
+    match read(alloc, bytes) {
         Ok(forms) => checked(alloc, &forms),
         Err(error) => Err(load_error(error)),
     }
@@ -53,7 +65,7 @@ pub fn load<F: Files>(alloc: Global, files: &mut F, name: &Text) -> Result<Progr
 
 /// The program of the forms.
 fn checked(alloc: Global, forms: &Forms) -> Result<Program, LoadNo>
-    ensures { Gives forms.now result }
+    ensures { GivesForms forms.now result }
 {
     match check(alloc, forms) {
         Ok(program) => Ok(program),

@@ -1,13 +1,19 @@
 //! The program: it reads the words of its command line, does what they say, and ends with the status of the outcome.
 #![tactic(auto)]
 
+mod check_command;
+mod ends;
+mod fetch;
 mod lines;
 mod load;
+mod load_replay;
 mod outcome;
-mod program;
+mod replay;
+mod replay_command;
 mod run;
+mod run_command;
 mod top;
-mod words;
+mod without;
 
 use std::env;
 use std::process::ExitCode;

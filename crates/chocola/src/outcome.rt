@@ -1,8 +1,8 @@
 ghost use Rattle.std.specs.Prelude.{◌≡◌, [], None};
-ghost use Rattle.chocola.specs.Outcome.{kind_number, scope_kind_number};
+ghost use Rattle.chocola.specs.Outcome.{kind_number, scope_kind_number, line_kind_number};
 
 use scope_check::ScopeKind;
-use serial_model::{End, History};
+use serial_model::{End, History, LineKind};
 use sexpr_reader::ReadKind;
 use std::alloc::Global;
 use value_core::Place;
@@ -20,7 +20,7 @@ pub struct Outcome {
 }
 
 /// More of an outcome.
-#[derive(Clone, Copy, Debug, PartialEq, Eq)]
+#[derive(Drop)]
 pub enum Detail {
     Nothing,
     /// A part of what was read is refused, with the number of the refusal and its place.
@@ -29,6 +29,13 @@ pub enum Detail {
         kind: u8,
         line: u64,
         column: u64,
+    },
+    /// A replay differs from its trace, with the line of the trace, the end that the trace states, and the end of the
+    /// state before that line, where it is over.
+    Differs {
+        line: u64,
+        stated: End,
+        found: Option<End>,
     },
 }
 
@@ -39,10 +46,12 @@ pub enum Part {
     Source,
     /// What the source's forms mean.
     Scope,
+    /// The text of a trace.
+    Trace,
 }
 
 impl Detail {
-    ghost use Rattle.chocola.specs.Outcome.{refused_as, out_of_scope, not_yet};
+    ghost use Rattle.chocola.specs.Outcome.{refused_as, out_of_scope, refused_trace};
 
     /// The source is refused with that kind at that place.
     pub fn refused(kind: ReadKind, at: Place) -> Self
@@ -68,14 +77,14 @@ impl Detail {
         }
     }
 
-    /// A form of the source is not built yet.
-    pub fn not_yet() -> Self
-        ensures { result ≡ not_yet }
+    /// The trace is refused with that kind at that line.
+    pub fn refused_trace(kind: LineKind, line: u64) -> Self
+        ensures { result ≡ refused_trace kind line }
     {
         Detail::Refused {
-            part: Part::Scope,
-            kind: 7,
-            line: 1,
+            part: Part::Trace,
+            kind: line_kind_number(kind),
+            line,
             column: 1,
         }
     }
@@ -105,6 +114,15 @@ fn scope_kind_number(kind: ScopeKind) -> u8
         ScopeKind::BadForm => 4,
         ScopeKind::EarlyGlobal => 5,
         ScopeKind::TooManyNodes => 6,
+    }
+}
+
+fn line_kind_number(kind: LineKind) -> u8
+    ensures { result ≡ line_kind_number kind }
+{
+    match kind {
+        LineKind::BadLine => 1,
+        LineKind::TooLong => 2,
     }
 }
 

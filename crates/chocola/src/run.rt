@@ -1,132 +1,61 @@
-ghost use Rattle.std.specs.Prelude.{◌≡◌, ◌∷◌, [], ◌++◌, IfOk, OnOk, OnErr, Some, None};
-ghost use Rattle.serial_model.specs.State.{main_name};
-ghost use Rattle.serial_model.specs.Step.{printed_by};
-ghost use Rattle.serial_model.specs.declared.entry.Entry.TheVariants.{Run as RunEntry};
-ghost use Rattle.eval_step.specs.Evaluation.{IsAsking};
-ghost use Rattle.chocola.specs.Run.{RunsTo, IsRunTo, IsMain, IsRunning, Printed, Stepped};
+ghost use Rattle.std.specs.Prelude.{◌≡◌, [], IfOk, IfSome, IsSome, IsNone};
+ghost use Rattle.core_syntax.specs.Table.{Table};
+ghost use Rattle.serial_model.specs.Replay.{IsOver};
+ghost use Rattle.serial_machine.specs.Progress.{state_of};
 
+use crate::ends::copy_end;
 use core_syntax::Program;
-use eval_step::Machine;
-use serial_model::{Answer, End, Entry, Halt, History, Limits, Request};
+use serial_machine::Serial;
+use serial_model::{End, Limits};
 use std::alloc::{AllocError, Global};
-use value_core::{Name, Text, Value, Values};
+use std::sync::Arc;
 
-/// A run: its history, what it printed, and its end, which is missing where the run stopped for want of memory.
-#[derive(Drop)]
-pub struct Ran {
-    pub history: History,
-    pub output: Vec<u8>,
-    pub end: Option<End>,
+/// The run of the program under these limits, before its first entry.
+pub fn opened(alloc: Global, program: Program, limits: Limits) -> Result<Serial, AllocError>
+    ensures setup { IfOk result (λ serial. serial.setup ≡ record { program = program; limits = limits }) }
+    ensures history { IfOk result (λ serial. serial.history ≡ []) }
+{
+    Serial::new(alloc, Arc::new(alloc, program)?, limits)
 }
 
-/// Runs main of the program under the default limits.
-pub fn run(alloc: Global, program: &Program) -> Ran
-    ensures { RunsTo program.now result.history.items result.output.items result.end }
+/// Settles one entry after the other, always the first that is enabled, and answers the end where the run is over. It
+/// stops for want of memory.
+pub fn run_to_end(alloc: Global, serial: &mut Serial, limits: Limits) -> Option<End>
+    ensures setup { serial.new.setup ≡ serial.old.setup }
+    ensures replays { IsSome (state_of serial.new) }
+    ensures over { IfSome result (λ end. IfSome (state_of serial.new) (λ s. IsOver serial.new.setup s end)) }
 {
-    let mut history = History::new(alloc);
-    let mut output = Vec::new(alloc);
-    let end = run_main(alloc, program, &mut history, &mut output).ok();
-    Ran {
-        history,
-        output,
-        end,
-    }
-}
-
-/// Runs main to its end.
-fn run_main(
-    alloc: Global,
-    program: &Program,
-    history: &mut History,
-    output: &mut Vec<u8>,
-) -> Result<End, AllocError>
-    requires no_entries { history.old.items ≡ [] }
-    requires no_bytes { output.old.items ≡ [] }
-    ensures { IsRunTo program.now history.new.items output.new.items result }
-{
-    let fuel = Limits::default().fuel();
-    let mut machine = Machine::start(alloc, program.main(), Values::new(alloc), false, fuel)?;
-    loop {
-        match step_main(alloc, program, &mut machine, history, output)? {
-            Some(end) => return Ok(end),
-            None => {}
-        }
-    }
-}
-
-/// Takes main to its next effect and does it, or to its end, which is answered.
-fn step_main(
-    alloc: Global,
-    program: &Program,
-    machine: &mut Machine,
-    history: &mut History,
-    output: &mut Vec<u8>,
-) -> Result<Option<End>, AllocError>
-    requires is_main { IsMain program.now machine.old }
-    requires running { IsRunning program.now history.old.items output.old.items machine.old.answers }
-    ensures { Stepped program.now machine.old machine.new history.new.items output.new.items result }
-{
-    match machine.run_to_ask(alloc, program)? {
-        Halt::Ask(request, _) => match printed(request) {
-            Some(text) => {
-                print_main(alloc, &text, machine, history, output)?;
-                Ok(None)
+    let most = u64::from(limits.units()) * (limits.fuel() + 3) + 1;
+    for _ in 0..most {
+        match serial.first_enabled(alloc) {
+            Ok(Some(entry)) => {
+                if serial.step(alloc, &entry).is_err() {
+                    return stopped(serial);
+                }
             }
-            None => Ok(Some(End::Done)),
-        },
-        Halt::Value(_) => end_main(alloc, history, End::Done),
-        Halt::Fault(code, at) => {
-            let unit = Name::main(alloc)?;
-            end_main(alloc, history, End::Fault { code, at, unit })
-        }
-        Halt::Spent => {
-            let unit = Name::main(alloc)?;
-            end_main(alloc, history, End::Spent { unit })
+            Ok(None) => return end_of(alloc, serial),
+            Err(_) => return stopped(serial),
         }
     }
+    stopped(serial)
 }
 
-/// The text of a request to print.
-fn printed(request: Request) -> Option<Text>
-    ensures { result ≡ printed_by request }
+/// No end: the run stopped before it was over.
+fn stopped(serial: &Serial) -> Option<End>
+    ensures none { IsNone result }
+    ensures replays { IsSome (state_of serial.now) }
 {
-    match request {
-        Request::Print(text) => Some(text),
-        _ => None,
+    let _output = serial.output();
+    None
+}
+
+/// The end of the run, where it is over.
+pub fn end_of(alloc: Global, serial: &Serial) -> Option<End>
+    ensures over { IfSome result (λ end. IfSome (state_of serial.now) (λ s. IsOver serial.now.setup s end)) }
+    ensures replays { IsSome (state_of serial.now) }
+{
+    match serial.end() {
+        Some(end) => copy_end(alloc, end).ok(),
+        None => None,
     }
-}
-
-/// Prints the text, adds the entry of main that does it, and answers with nil.
-fn print_main(
-    alloc: Global,
-    text: &Text,
-    machine: &mut Machine,
-    history: &mut History,
-    output: &mut Vec<u8>,
-) -> Result<(), AllocError>
-    requires { IsAsking machine.old }
-    ensures { Printed machine.old machine.new history.old.items history.new.items output.old.items output.new.items text.now result }
-{
-    output.extend_from_slice(text.items())?;
-    settle_main(alloc, history)?;
-    machine.answer(alloc, Answer::Value(Value::Nil))
-}
-
-/// Adds the entry of main that comes to this end.
-fn end_main(alloc: Global, history: &mut History, end: End) -> Result<Option<End>, AllocError>
-    ensures end { IfOk result (λ answer. answer ≡ Some end) }
-    ensures entry { OnOk result (history.new.items ≡ history.old.items ++ RunEntry main_name ∷ []) }
-    ensures err { OnErr result (history.new.items ≡ history.old.items) }
-{
-    settle_main(alloc, history)?;
-    Ok(Some(end))
-}
-
-/// Adds an entry of main.
-fn settle_main(alloc: Global, history: &mut History) -> Result<(), AllocError>
-    ensures entry { OnOk result (history.new.items ≡ history.old.items ++ RunEntry main_name ∷ []) }
-    ensures err { OnErr result (history.new.items ≡ history.old.items) }
-{
-    let name = Name::main(alloc)?;
-    history.push(Entry::Run(name))
 }

@@ -1,50 +1,95 @@
-ghost use Rattle.std.specs.Prelude.{◌≤◌};
+mod checks;
+mod replays;
+mod runs;
+mod traces;
 
 use crate::outcome::{Detail, Outcome, Part};
 use crate::top::chocola;
-use serial_model::{End, Entry};
+use serial_model::End;
 use std::alloc::{AllocError, Global};
 use std::test::Fail;
 use value_core::Text;
-use world_io::{CallList, FileItem, FileList, MemFiles, MemSink};
+use world_io::{CallList, FileItem, FileList, Files, MemFiles, MemSink};
 
 /// What a call wrote, beside its outcome.
 #[derive(Drop)]
 struct Call {
     outcome: Outcome,
+    files: MemFiles,
     out: MemSink,
     err: MemSink,
 }
 
-/// Calls the program on one file `a.clj` that is held, with a standard output that takes so many bytes a write, where
-/// the writes of these numbers fail, to standard output and to standard error.
+/// What standard output takes at a write, and which call of standard output, of standard error and of the files fails.
+#[derive(Clone, Copy)]
+struct Plan {
+    at_most: usize,
+    out: Option<u64>,
+    err: Option<u64>,
+    files: Option<u64>,
+}
+
+/// All is written, and nothing fails.
+const CALM: Plan = Plan {
+    at_most: 100,
+    out: None,
+    err: None,
+    files: None,
+};
+
+/// The calls of which this one fails.
+fn failing(alloc: Global, call: Option<u64>) -> Result<CallList, AllocError> {
+    let mut calls = CallList::new(alloc);
+    if let Some(number) = call {
+        calls.push(number).map_err(|_| AllocError)?;
+    }
+    Ok(calls)
+}
+
+fn file(alloc: Global, name: &[u8], bytes: &[u8]) -> Result<FileItem, AllocError> {
+    Ok(FileItem {
+        name: Text::from_bytes(alloc, name)?,
+        bytes: Text::from_bytes(alloc, bytes)?,
+    })
+}
+
+/// Calls the program on the files `a.clj` and `t`, which hold these bytes.
 fn call_program(
     alloc: Global,
     words: &[&str],
     source: &[u8],
-    at_most: usize,
-    out_fails: &[u64],
-    err_fails: &[u64],
-) -> Result<Call, AllocError>
-    requires { 1 ≤ at_most }
-{
+    trace: &[u8],
+    plan: Plan,
+) -> Result<Call, AllocError> {
     let mut texts = Vec::new(alloc);
     for word in words {
         texts.push(String::from_str(alloc, word)?)?;
     }
     let mut held = FileList::new(alloc);
-    let file = FileItem {
-        name: Text::from_bytes(alloc, b"a.clj")?,
-        bytes: Text::from_bytes(alloc, source)?,
-    };
-    held.push(file).map_err(|_| AllocError)?;
-    let mut files = MemFiles::new(held, CallList::new(alloc));
-    let out_calls = CallList::from_slice(alloc, out_fails)?;
-    let mut out = MemSink::new(alloc, at_most, 100, out_calls)?;
-    let err_calls = CallList::from_slice(alloc, err_fails)?;
-    let mut err = MemSink::new(alloc, 100, 100, err_calls)?;
+    held.push(file(alloc, b"a.clj", source)?)
+        .map_err(|_| AllocError)?;
+    held.push(file(alloc, b"t", trace)?)
+        .map_err(|_| AllocError)?;
+    let mut files = MemFiles::new(held, failing(alloc, plan.files)?);
+    let mut out = MemSink::new(alloc, plan.at_most.max(1), 200, failing(alloc, plan.out)?)?;
+    let mut err = MemSink::new(alloc, 100, 200, failing(alloc, plan.err)?)?;
     let outcome = chocola(alloc, texts.as_slice(), &mut files, &mut out, &mut err);
-    Ok(Call { outcome, out, err })
+    Ok(Call {
+        outcome,
+        files,
+        out,
+        err,
+    })
+}
+
+/// What the files hold under the name after the call.
+fn held_under(
+    alloc: Global,
+    files: &mut MemFiles,
+    name: &str,
+) -> Result<Option<Vec<u8>>, AllocError> {
+    let name = Text::from_bytes(alloc, name.as_bytes())?;
+    Ok(files.read(alloc, &name, 10000).ok())
 }
 
 /// How a run ends, beside its status.
@@ -54,223 +99,77 @@ enum Ending {
     Done,
     Fault,
     Spent,
+    UnitsSpent,
 }
 
 fn how_it_ended(end: &Option<End>) -> Ending {
     match end {
         None => Ending::None,
-        Some(End::Done) => Ending::Done,
-        Some(End::Fault { .. }) => Ending::Fault,
-        Some(End::Spent { .. }) => Ending::Spent,
+        Some(end) => end_kind(end),
     }
 }
 
-#[test]
-fn runs(rt: HostRuntime) -> Result<(), Fail> {
-    let rows: [(&str, &str, usize); 14] = [
-        ("(println 7)(println -0)", "7\n0\n", 3),
-        ("", "", 1),
-        (
-            "(println -9223372036854775808)",
-            "-9223372036854775808\n",
-            2,
-        ),
-        ("(println \"a\" 1 nil [1 \"b\"])", "a 1 nil [1 b]\n", 2),
-        ("(+ 1 2) (println (+ 1 2))", "3\n", 2),
-        ("(def a 1) (def b (+ a 1)) (println a b)", "1 2\n", 2),
-        (
-            "(let [x 1 y (+ x 1) x 5] (println x y (let [x 7] x) x))",
-            "5 2 7 5\n",
-            2,
-        ),
-        (
-            "(println (if nil 1 2) (if false 1) (if 0 3 4) (when true 5 6) (cond nil 1 true 8) (cond))",
-            "2 nil 3 6 8 nil\n",
-            2,
-        ),
-        (
-            "(println (and) (and 1 nil 2) (and 1 2) (or) (or nil 3 4) (or false nil))",
-            "true nil 2 nil 3 nil\n",
-            2,
-        ),
-        (
-            "(println (:a {:a 1}) (:b {:a 1} 2) {:a 1 \"b\" [2 {}] :a 3} (get [4 5] 1))",
-            "1 2 {:a 3, b [2 {}]} 5\n",
-            2,
-        ),
-        (
-            "(println (loop [i 0 sum 0] (if (= i 101) sum (recur (inc i) (+ sum i)))))",
-            "5050\n",
-            2,
-        ),
-        (
-            "(defn even [n] (if (= n 0) true (odd (dec n)))) (defn odd [n] (if (= n 0) false (even (dec n)))) (println (even 1001))",
-            "false\n",
-            2,
-        ),
-        (
-            "(def k 10) (defn f [n] (loop [i 0 v []] (if (< i n) (recur (inc i) (conj v (+ i k))) v))) (println (f 3))",
-            "[10 11 12]\n",
-            2,
-        ),
-        (
-            "(defn fib [n] (if (< n 2) n (+ (fib (- n 1)) (fib (- n 2))))) (println (fib 15))",
-            "610\n",
-            2,
-        ),
-    ];
-    for (source, printed, entries) in rows {
-        let call = call_program(
-            rt.alloc(),
-            &["run", "a.clj"],
-            source.as_bytes(),
-            100,
-            &[],
-            &[],
-        )?;
-        assert_eq!(rt; call.outcome.status, 0, "{source}");
-        assert_eq!(rt; how_it_ended(&call.outcome.end), Ending::Done);
-        assert_eq!(rt; call.outcome.detail, Detail::Nothing);
-        assert_eq!(rt; call.out.taken(), printed.as_bytes(), "{source}");
-        assert!(rt; call.err.taken().is_empty());
-        assert_eq!(rt; call.outcome.history.entries().len(), entries);
-        for Entry::Run(unit) in call.outcome.history.entries() {
-            assert_eq!(rt; unit.parts(), [0].as_slice());
-        }
+fn end_kind(end: &End) -> Ending {
+    match end {
+        End::Done => Ending::Done,
+        End::Fault { .. } => Ending::Fault,
+        End::Spent { .. } => Ending::Spent,
+        End::UnitsSpent => Ending::UnitsSpent,
     }
-    Ok(())
 }
 
-#[test]
-fn ends_with_a_fault_or_a_spent_budget(rt: HostRuntime) -> Result<(), Fail> {
-    let rows: [(&str, &str, u8, Ending, &str); 10] = [
-        (
-            "(println (+ 9223372036854775807 1))",
-            "",
-            1,
-            Ending::Fault,
-            "fault 3 Overflow at 1:10 in 0\n",
-        ),
-        (
-            "(println 1)\n (inc nil)",
-            "1\n",
-            1,
-            Ending::Fault,
-            "fault 1 WrongType at 2:2 in 0\n",
-        ),
-        (
-            "(quot 1 0)",
-            "",
-            1,
-            Ending::Fault,
-            "fault 2 DivideByZero at 1:1 in 0\n",
-        ),
-        (
-            "(nth [1] 1)",
-            "",
-            1,
-            Ending::Fault,
-            "fault 4 Index at 1:1 in 0\n",
-        ),
-        (
-            "(loop [v [] n 0] (if (= n 200) v (recur [v] (inc n))))",
-            "",
-            1,
-            Ending::Fault,
-            "fault 9 TooDeep at 1:41 in 0\n",
-        ),
-        (
-            "{[] 1}",
-            "",
-            1,
-            Ending::Fault,
-            "fault 1 WrongType at 1:1 in 0\n",
-        ),
-        (
-            "(defn f [n] (f (+ n 1))) (println \"start\") (f 0)",
-            "start\n",
-            5,
-            Ending::Spent,
-            "spent fuel in 0\n",
-        ),
-        ("(if true 1 (quot 1 0))", "", 0, Ending::Done, ""),
-        (
-            "(println (quot 1 0) (nth [] 5))",
-            "",
-            1,
-            Ending::Fault,
-            "fault 2 DivideByZero at 1:10 in 0\n",
-        ),
-        (
-            "(let [x (nth [] 5)] (quot 1 0))",
-            "",
-            1,
-            Ending::Fault,
-            "fault 4 Index at 1:9 in 0\n",
-        ),
-    ];
-    for (source, printed, status, wanted, said) in rows {
-        let call = call_program(
-            rt.alloc(),
-            &["run", "a.clj"],
-            source.as_bytes(),
-            100,
-            &[],
-            &[],
-        )?;
-        assert_eq!(rt; call.outcome.status, status, "{source}");
-        assert_eq!(rt; how_it_ended(&call.outcome.end), wanted);
-        assert_eq!(rt; call.outcome.detail, Detail::Nothing);
-        assert_eq!(rt; call.out.taken(), printed.as_bytes());
-        assert_eq!(rt; call.err.taken(), said.as_bytes(), "{source}");
-    }
-    Ok(())
+/// What a detail tells.
+#[derive(Clone, Copy, Debug, PartialEq, Eq)]
+enum Told {
+    Nothing,
+    Refused(Part, u8, u64, u64),
+    Differs(u64, Ending, Ending),
 }
 
-#[test]
-fn checks(rt: HostRuntime) -> Result<(), Fail> {
-    let rows: [(&[u8], &[u8]); 4] = [
-        (b"", b"ok 0 functions 0 behaviours 0 globals\n"),
-        (
-            b"(defn a [] (b)) (defn b [] (a))",
-            b"ok 2 functions 0 behaviours 0 globals\n",
-        ),
-        (
-            b"(def a 1) (def b (+ a 1)) (println b)",
-            b"ok 0 functions 0 behaviours 2 globals\n",
-        ),
-        (b"(println 7)", b"ok 0 functions 0 behaviours 0 globals\n"),
-    ];
-    for (source, printed) in rows {
-        let call = call_program(rt.alloc(), &["check", "a.clj"], source, 100, &[], &[])?;
-        assert_eq!(rt; call.outcome.status, 0);
-        assert_eq!(rt; how_it_ended(&call.outcome.end), Ending::None);
-        assert_eq!(rt; call.outcome.detail, Detail::Nothing);
-        assert_eq!(rt; call.out.taken(), printed);
-        assert!(rt; call.err.taken().is_empty());
-        assert!(rt; call.outcome.history.entries().is_empty());
+fn what_is_told(detail: &Detail) -> Told {
+    match detail {
+        Detail::Nothing => Told::Nothing,
+        Detail::Refused {
+            part,
+            kind,
+            line,
+            column,
+        } => Told::Refused(*part, *kind, *line, *column),
+        Detail::Differs {
+            line,
+            stated,
+            found,
+        } => Told::Differs(*line, end_kind(stated), how_it_ended(found)),
     }
-    Ok(())
 }
 
 #[test]
 fn refuses_words_and_files(rt: HostRuntime) -> Result<(), Fail> {
-    let rows: [(&[&str], u8, &str); 9] = [
-        (&["run"], 2, "chocola: bad command line\n"),
-        (&[], 2, "chocola: bad command line\n"),
-        (&["run", ""], 2, "chocola: bad command line\n"),
-        (&["run", "-a"], 2, "chocola: bad command line\n"),
-        (&["run", "a.clj", "b"], 2, "chocola: bad command line\n"),
+    let usage = "chocola: bad command line\n";
+    let rows: [(&[&str], u8, &str); 17] = [
+        (&["run"], 2, usage),
+        (&[], 2, usage),
+        (&["run", ""], 2, usage),
+        (&["run", "-a"], 2, usage),
+        (&["run", "a.clj", "b"], 2, usage),
+        (&["run", "a.clj", "--workers", "0"], 2, usage),
+        (&["run", "a.clj", "--fuel", "0"], 2, usage),
+        (&["run", "a.clj", "--trace"], 2, usage),
+        (&["replay", "a.clj"], 2, usage),
+        (&["schedule", "a.clj", "b"], 2, usage),
+        (&["check"], 2, usage),
+        (&["test", "a.clj"], 2, usage),
         (&["run", "b.clj"], 3, "cannot read b.clj\n"),
-        (&["check"], 2, "chocola: bad command line\n"),
-        (&["test", "a.clj"], 2, "chocola: bad command line\n"),
         (&["check", "b.clj"], 3, "cannot read b.clj\n"),
+        (&["replay", "b.clj", "c"], 3, "cannot read b.clj\n"),
+        (&["replay", "a.clj", "c"], 3, "cannot read c\n"),
+        (&["replay", "c", "a.clj"], 3, "cannot read c\n"),
     ];
     for (words, status, said) in rows {
-        let call = call_program(rt.alloc(), words, b"(println 1)", 100, &[], &[])?;
+        let call = call_program(rt.alloc(), words, b"(println 1)", b"", CALM)?;
         assert_eq!(rt; call.outcome.status, status);
         assert_eq!(rt; how_it_ended(&call.outcome.end), Ending::None);
-        assert_eq!(rt; call.outcome.detail, Detail::Nothing);
+        assert_eq!(rt; what_is_told(&call.outcome.detail), Told::Nothing);
         assert!(rt; call.out.taken().is_empty());
         assert_eq!(rt; call.err.taken(), said.as_bytes());
         assert!(rt; call.outcome.history.entries().is_empty());
@@ -280,7 +179,7 @@ fn refuses_words_and_files(rt: HostRuntime) -> Result<(), Fail> {
 
 #[test]
 fn refuses_sources(rt: HostRuntime) -> Result<(), Fail> {
-    let rows: [(&str, &[u8], Part, u8, u64, &str); 12] = [
+    let rows: [(&str, &[u8], Part, u8, u64, &str); 11] = [
         (
             "run",
             b"(println 9223372036854775808)",
@@ -312,14 +211,6 @@ fn refuses_sources(rt: HostRuntime) -> Result<(), Fail> {
             1,
             10,
             "source 1:10 BadByte\n",
-        ),
-        (
-            "run",
-            b"(println @(ref 1))",
-            Part::Scope,
-            7,
-            1,
-            "source 1:1 NotYet\n",
         ),
         (
             "check",
@@ -379,65 +270,15 @@ fn refuses_sources(rt: HostRuntime) -> Result<(), Fail> {
         ),
     ];
     for (command, source, part, kind, column, said) in rows {
-        let call = call_program(rt.alloc(), &[command, "a.clj"], source, 100, &[], &[])?;
-        let refused = Detail::Refused {
-            part,
-            kind,
-            line: 1,
-            column,
-        };
+        let call = call_program(rt.alloc(), &[command, "a.clj"], source, b"", CALM)?;
         assert_eq!(rt; call.outcome.status, 4);
-        assert_eq!(rt; call.outcome.detail, refused);
+        assert_eq!(rt;
+            what_is_told(&call.outcome.detail),
+            Told::Refused(part, kind, 1, column)
+        );
         assert!(rt; call.out.taken().is_empty());
         assert_eq!(rt; call.err.taken(), said.as_bytes());
         assert!(rt; call.outcome.history.entries().is_empty());
     }
-    Ok(())
-}
-
-#[test]
-fn stops_writing_at_a_fault(rt: HostRuntime) -> Result<(), Fail> {
-    let call = call_program(
-        rt.alloc(),
-        &["run", "a.clj"],
-        b"(println 1) (println 2)",
-        1,
-        &[1],
-        &[],
-    )?;
-    assert_eq!(rt; call.outcome.status, 7);
-    assert_eq!(rt; how_it_ended(&call.outcome.end), Ending::Done);
-    assert_eq!(rt; call.out.taken(), b"1".as_slice());
-    assert!(rt; call.err.taken().is_empty());
-    Ok(())
-}
-
-#[test]
-fn a_check_stops_writing_at_a_fault(rt: HostRuntime) -> Result<(), Fail> {
-    let call = call_program(
-        rt.alloc(),
-        &["check", "a.clj"],
-        b"(println 1)",
-        1,
-        &[1],
-        &[],
-    )?;
-    assert_eq!(rt; call.outcome.status, 7);
-    assert_eq!(rt; how_it_ended(&call.outcome.end), Ending::None);
-    assert_eq!(rt; call.out.taken(), b"o".as_slice());
-    assert!(rt; call.err.taken().is_empty());
-    Ok(())
-}
-
-// A failed write of the line of an end is status 7, and one of the line of another status changes nothing.
-#[test]
-fn standard_error_fails(rt: HostRuntime) -> Result<(), Fail> {
-    let faulty = b"(println (+ 9223372036854775807 1))";
-    let fault = call_program(rt.alloc(), &["run", "a.clj"], faulty, 100, &[], &[0])?;
-    assert_eq!(rt; fault.outcome.status, 7);
-    assert_eq!(rt; how_it_ended(&fault.outcome.end), Ending::Fault);
-    assert!(rt; fault.out.taken().is_empty());
-    let missing = call_program(rt.alloc(), &["run", "b.clj"], b"", 100, &[], &[0])?;
-    assert_eq!(rt; missing.outcome.status, 3);
     Ok(())
 }

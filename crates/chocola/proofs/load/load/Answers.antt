@@ -1,6 +1,7 @@
-use Rattle.std.proofs.Common.{refl}
-use Rattle.chocola.proofs.Loading.{too_long_due}
+use Rattle.chocola.proofs.Loading.{loads_file}
 use Rattle.chocola.proofs.load.load.Goals as goal
 
-pub returns-in-Err-TooLong-clause-loads : goal.returns-in-Err-TooLong-clause-loads
-returns-in-Err-TooLong-clause-loads g c = rw c.too_long.ensures (too_long_due _ (c.in-Err-TooLong.ensures.too_long (rw c.in-Err-TooLong.field-0-is refl)))
+pub returns-in-Ok-clause-loads : goal.returns-in-Ok-clause-loads
+returns-in-Ok-clause-loads g c =
+    loads_file _ (g.F.Files.read_faults c.args.files.now) (g.F.Files.read_faults c.fetch.new.files) (g.F.Files.read_faults c.fetch.new.files) c.in-Ok.file c.program_of.result
+    c.in-Ok.ensures.fetches c.program_of.ensures

@@ -1,0 +1,21 @@
+use Rattle.std.proofs.Common.{refl}
+use Rattle.chocola.proofs.Answering.{run_error, run_loaded}
+use Rattle.chocola.proofs.run_command.run_file.Goals as goal
+
+pub returns-in-Ok-clause-answers : goal.returns-in-Ok-clause-answers
+returns-in-Ok-clause-answers g c =
+    run_loaded c.args.file.now _ _ c.run_program.result c.in-Ok.program c.in-Ok.ensures.loads c.args.limits c.args.trace.now
+    (g.F.Files.held c.load.new.files) (g.F.Files.read_faults c.load.new.files) (g.F.Files.write_faults c.load.new.files) c.in-Ok.ensures.same c.in-Ok.ensures.writes
+    c.run_program.ensures.statuses c.run_program.ensures.finished c.run_program.ensures.ended c.run_program.ensures.trace c.run_program.ensures.not_written c.run_program.ensures.detail
+    c.run_program.ensures.said c.run_program.ensures.said_at_most c.run_program.ensures.end_said
+
+pub returns-in-Err-clause-answers : goal.returns-in-Err-clause-answers
+returns-in-Err-clause-answers g c =
+    run_error c.args.file.now _ _ c.without_program.result c.in-Err.error c.in-Err.ensures.loads c.without_program.ensures.status c.without_program.ensures.detail c.args.limits c.args.trace.now
+    (record {
+      history = c.without_program.ensures.history;
+      end = c.without_program.ensures.end;
+      printed = refl;
+      files = record { held = c.in-Err.ensures.same; faults = c.in-Err.ensures.writes };
+    })
+    c.without_program.ensures.said c.without_program.ensures.said_at_most

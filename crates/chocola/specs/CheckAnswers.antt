@@ -1,0 +1,43 @@
+-- What is owed to `check FILE`.
+use Rattle.std.specs.Prelude.{◌≡◌, ◌≢◌, ℕ, ◌⊎◌, List, [], ◌∷◌, None}
+use Rattle.std.specs.Io.KnownBytes.{append_known}
+use Rattle.world_io.specs.Counts.{Rose}
+use Rattle.world_io.specs.Held.{told, IsHeld}
+use Rattle.world_io.specs.Taken.{TookPrefix}
+use Rattle.core_syntax.specs.Table.{Table}
+use Rattle.chocola.specs.declared.outcome.Outcome.{Outcome}
+use Rattle.chocola.specs.declared.outcome.Detail.TheVariants.{Nothing}
+use Rattle.chocola.specs.Check.{check_line}
+use Rattle.chocola.specs.Program.{IsProgramOf}
+use Rattle.chocola.specs.Outcome.{IsEnded, IsOfSource, IsIdle}
+use Rattle.chocola.specs.Seen.{Seen, IsCalm, IsGiven, IsUntouched}
+use Rattle.chocola.specs.SourceAnswers.{IsRefusedSource, ReadsSource, Says}
+use Rattle.chocola.specs.Written.{IsWritten}
+
+-- The file holds a source with this program by scope, where it is told what it holds: a front of the line of its counts
+-- went to standard output, and all of it where it was written.
+pub record IsChecked (file : List ℕ) (before after : Seen) (outcome : Outcome) : Type 0 where
+  pub bytes : List ℕ
+  pub program : Table
+  pub read : IsHeld (told before.held file) bytes
+  pub source : IsProgramOf bytes program
+  pub done : (outcome.status ≡ 0) ⊎ (outcome.status ≡ 7)
+  pub prefix : TookPrefix before.out after.out (check_line program)
+  pub all_when_written : IsWritten outcome.status before.out_faults after.out_faults → after.out ≡ append_known before.out (check_line program)
+
+pub record CheckAnswers (file : List ℕ) (before after : Seen) (outcome : Outcome) : Type 0 where
+  pub statuses : IsOfSource outcome.status
+  pub checked : IsEnded outcome.status → IsChecked file before after outcome
+  pub complete : (bytes : List ℕ) (program : Table) → IsGiven file bytes before → IsProgramOf bytes program → IsCalm before after
+      → (outcome.status ≡ 0) ⊎ (outcome.status ≡ 6)
+  -- the causes of the other statuses
+  pub reads : ReadsSource file (file ∷ []) before after outcome
+  pub refused : outcome.status ≡ 4 → IsRefusedSource (told before.held file) outcome.detail
+  pub not_written : outcome.status ≡ 7 → Rose before.out_faults after.out_faults
+  -- what else the outcome shows: nothing is run, and no name changes
+  pub no_entries : outcome.history.items ≡ []
+  pub no_end : outcome.end ≡ None
+  pub files : IsUntouched before after
+  pub idle : (IsEnded outcome.status → ⊥) → IsIdle before after outcome
+  pub detail : outcome.status ≢ 4 → outcome.detail ≡ Nothing
+  pub says : Says (file ∷ []) before after outcome

@@ -1,0 +1,40 @@
+-- What is owed to `run FILE` under these limits, with or without a trace.
+use Rattle.std.specs.Prelude.{◌≡◌, ◌≢◌, ℕ, ◌⊎◌, List, [], ◌∷◌, Option, IsSome}
+use Rattle.world_io.specs.Counts.{Rose}
+use Rattle.world_io.specs.Held.{told, IsHeld}
+use Rattle.core_syntax.specs.Table.{Table}
+use Rattle.serial_model.specs.Limits.{Budget}
+use Rattle.chocola.specs.declared.outcome.Outcome.{Outcome}
+use Rattle.chocola.specs.declared.outcome.Detail.TheVariants.{Nothing}
+use Rattle.chocola.specs.Program.{IsProgramOf}
+use Rattle.chocola.specs.Outcome.{IsEnded, IsWithoutRun, IsOfSource, IsStatusOfEnd, IsIdle, Finished}
+use Rattle.chocola.specs.Seen.{Seen, IsCalm, IsGiven}
+use Rattle.chocola.specs.SourceAnswers.{IsRefusedSource, ReadsSource, Says}
+use Rattle.chocola.specs.Traced.{KeepsTrace}
+
+-- the run, under these limits, of the program that the file holds, where it is told what it holds
+pub record IsRun (file : List ℕ) (limits : Budget) (before after : Seen) (outcome : Outcome) : Type 0 where
+  pub bytes : List ℕ
+  pub program : Table
+  pub read : IsHeld (told before.held file) bytes
+  pub source : IsProgramOf bytes program
+  pub finished : Finished (record { program = program; limits = limits }) before.out after.out before.out_faults after.out_faults outcome
+
+pub record RunAnswers (file : List ℕ) (limits : Budget) (trace : Option (List ℕ)) (before after : Seen) (outcome : Outcome) : Type 0 where
+  pub statuses : IsOfSource outcome.status
+  -- the serializability theorem, for what the run answers
+  pub run : IsEnded outcome.status → IsRun file limits before after outcome
+  pub ended : IsEnded outcome.status → IsSome outcome.end
+  pub unless_memory : outcome.status ≡ 6 → IsIdle before after outcome ⊎ IsRun file limits before after outcome
+  pub complete : (bytes : List ℕ) (program : Table) → IsGiven file bytes before → IsProgramOf bytes program → IsCalm before after
+      → IsStatusOfEnd outcome ⊎ (outcome.status ≡ 6)
+  pub keeps : KeepsTrace limits trace before after outcome
+  -- the causes of the other statuses
+  pub reads : ReadsSource file (file ∷ []) before after outcome
+  pub refused : outcome.status ≡ 4 → IsRefusedSource (told before.held file) outcome.detail
+  pub not_written : outcome.status ≡ 7
+      → Rose before.out_faults after.out_faults ⊎ (Rose before.err_faults after.err_faults ⊎ Rose before.write_faults after.write_faults)
+  -- what else the outcome shows
+  pub idle : IsWithoutRun outcome.status → IsIdle before after outcome
+  pub detail : outcome.status ≢ 4 → outcome.detail ≡ Nothing
+  pub says : Says (file ∷ []) before after outcome

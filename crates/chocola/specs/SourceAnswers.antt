@@ -1,0 +1,45 @@
+-- What is owed where files are read: which statuses their faults and refusals come to, and what is said of an outcome.
+use Rattle.std.specs.Prelude.{◌≡◌, ◌≢◌, ℕ, ◌⊎◌, List, All, Contains}
+use Rattle.std.specs.Io.KnownBytes.{append_known}
+use Rattle.value_core.specs.Place.{Spot}
+use Rattle.world_io.specs.Held.{told}
+use Rattle.world_io.specs.Taken.{TookPrefix, Said}
+use Rattle.sexpr_reader.specs.declared.error.ReadKind.{ReadKind}
+use Rattle.sexpr_reader.specs.Grammar.{IsRefused}
+use Rattle.scope_check.specs.declared.error.ScopeKind.{ScopeKind}
+use Rattle.chocola.specs.declared.outcome.Outcome.{Outcome}
+use Rattle.chocola.specs.declared.outcome.Detail.{Detail}
+use Rattle.chocola.specs.Lines.{line_of, line_begun, ended_line}
+use Rattle.chocola.specs.Load.{IsDue, IsScopeDue, IsOutOfScope}
+use Rattle.chocola.specs.Outcome.{IsEnded, refused_as, out_of_scope}
+use Rattle.chocola.specs.Seen.{Seen, ReadsWell, IsMissing, IsGiven, IsUnread}
+use Rattle.std.specs.Prelude.{Option, None, Some}
+
+-- the source that is held is refused, with its kind and place in the detail
+abbrev pub IsRefusedSource : Option (Option (List ℕ)) → Detail → Type 0
+IsRefusedSource found detail =
+    ((kind : ReadKind) × (at : Spot) × IsDue found kind at × (detail ≡ refused_as kind at))
+    ⊎ ((kind : ScopeKind) × (at : Spot) × IsScopeDue found kind at × (detail ≡ out_of_scope kind at))
+
+-- something is held under each of the names, or it is not told
+abbrev pub AreThere : List (List ℕ) → Seen → Type 0
+AreThere names before = All (λ name. told before.held name ≢ Some None) names
+
+-- The names are read, the first of them as a source. A name under which nothing is held, and a source that is refused,
+-- come to their statuses, or there was no memory.
+pub record ReadsSource (file : List ℕ) (names : List (List ℕ)) (before after : Seen) (outcome : Outcome) : Type 0 where
+  pub missing : (name : List ℕ) → Contains names name → IsMissing name before → (outcome.status ≡ 3) ⊎ (outcome.status ≡ 6)
+  pub must_refuse : (bytes : List ℕ) (kind : ReadKind) (at : Spot) → IsGiven file bytes before → AreThere names before → IsRefused bytes kind at
+      → ReadsWell before after → ((outcome.status ≡ 4) × (outcome.detail ≡ refused_as kind at)) ⊎ (outcome.status ≡ 6)
+  pub must_refuse_scope : (bytes : List ℕ) (kind : ScopeKind) (at : Spot) → IsGiven file bytes before → AreThere names before → IsOutOfScope bytes kind at
+      → ReadsWell before after → ((outcome.status ≡ 4) × (outcome.detail ≡ out_of_scope kind at)) ⊎ (outcome.status ≡ 6)
+
+-- What standard error took: exactly the line of the outcome where its count did not rise, and else a front of it. After a
+-- status 0, 1 or 5 it is the whole line, whatever was counted. The name that is said not to be read is the first that was
+-- not read.
+pub record Says (names : List (List ℕ)) (before after : Seen) (outcome : Outcome) : Type 0 where
+  pub unread : List ℕ
+  pub not_read : outcome.status ≡ 3 → IsUnread names before after unread
+  pub said : Said before.err after.err before.err_faults after.err_faults (line_of unread outcome.status outcome.detail outcome.end)
+  pub said_at_most : TookPrefix before.err after.err (line_begun unread outcome.status outcome.detail outcome.end)
+  pub end_said : IsEnded outcome.status → outcome.status ≢ 7 → after.err ≡ append_known before.err (ended_line outcome.end)

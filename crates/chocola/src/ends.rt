@@ -1,0 +1,74 @@
+ghost use Rattle.std.specs.Prelude.{◌≡◌, ◌↔◌, IfOk, IsTrue};
+ghost use Rattle.serial_model.specs.Replay.{status};
+
+use serial_model::End;
+use std::alloc::{AllocError, Global};
+use value_core::{Code, Name, Place};
+
+/// The exit status of an end.
+pub fn end_status(end: &End) -> u8
+    ensures { result ≡ status end.now }
+{
+    match end {
+        End::Done => 0,
+        End::Fault { .. } => 1,
+        End::Spent { .. } => 5,
+        End::UnitsSpent => 5,
+    }
+}
+
+/// An equal end.
+pub fn copy_end(alloc: Global, end: &End) -> Result<End, AllocError>
+    ensures { IfOk result (λ copy. copy ≡ end.now) }
+{
+    match end {
+        End::Done => Ok(End::Done),
+        End::Fault { code, at, unit } => Ok(End::Fault {
+            code: *code,
+            at: *at,
+            unit: unit.copy(alloc)?,
+        }),
+        End::Spent { unit } => Ok(End::Spent {
+            unit: unit.copy(alloc)?,
+        }),
+        End::UnitsSpent => Ok(End::UnitsSpent),
+    }
+}
+
+/// Whether both ends are the same.
+pub fn is_same_end(left: &End, right: &End) -> bool
+    ensures { IsTrue result ↔ (left.now ≡ right.now) }
+{
+    match left {
+        End::Done => matches!(right, End::Done),
+        End::Fault { code, at, unit } => is_fault(right, *code, *at, unit),
+        End::Spent { unit } => is_spent(right, unit),
+        End::UnitsSpent => matches!(right, End::UnitsSpent),
+    }
+}
+
+fn is_fault(end: &End, failed: Code, place: Place, name: &Name) -> bool
+    ensures { IsTrue result ↔ (End.Fault failed place name.now ≡ end.now) }
+{
+    match end {
+        End::Fault { code, at, unit } => {
+            failed == *code && place == *at && is_same_name(name, unit)
+        }
+        _ => false,
+    }
+}
+
+fn is_spent(end: &End, name: &Name) -> bool
+    ensures { IsTrue result ↔ (End.Spent name.now ≡ end.now) }
+{
+    match end {
+        End::Spent { unit } => is_same_name(name, unit),
+        _ => false,
+    }
+}
+
+fn is_same_name(left: &Name, right: &Name) -> bool
+    ensures { IsTrue result ↔ (left.now ≡ right.now) }
+{
+    left.parts() == right.parts()
+}

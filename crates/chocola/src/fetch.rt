@@ -1,0 +1,47 @@
+ghost use Rattle.std.specs.Prelude.{◌≡◌, ◌≤◌};
+ghost use Rattle.world_io.specs.Held.{told};
+ghost use Rattle.chocola.specs.Fetch.{Fetches};
+
+use std::alloc::Global;
+use thiserror::Error;
+use value_core::Text;
+use world_io::{FileNo, Files};
+
+/// What a file holds: its bytes, or more of them than were asked for.
+#[derive(Drop)]
+pub enum Fetched {
+    Bytes(Vec<u8>),
+    TooLong,
+}
+
+/// Why a file was not read.
+#[derive(Clone, Copy, Debug, PartialEq, Eq, Error)]
+pub enum FetchNo {
+    /// Nothing is held under the name, or the files counted a fault.
+    #[error("the file was not read")]
+    NotRead,
+    /// There is no memory.
+    #[error("out of memory")]
+    Memory,
+}
+
+/// The bytes of the file under that name, if they are at most `limit`.
+pub fn fetch<F: Files>(
+    alloc: Global,
+    files: &mut F,
+    name: &Text,
+    limit: usize,
+) -> Result<Fetched, FetchNo>
+    ensures fetches { Fetches (told (F.held files.old) name.now) limit (F.read_faults files.old) (F.read_faults files.new) result }
+    ensures later { F.read_faults files.old ≤ F.read_faults files.new }
+    ensures writes { F.write_faults files.new ≡ F.write_faults files.old }
+    ensures same { F.held files.new ≡ F.held files.old }
+{
+    match files.read(alloc, name, limit) {
+        Ok(bytes) => Ok(Fetched::Bytes(bytes)),
+        Err(FileNo::TooLong) => Ok(Fetched::TooLong),
+        Err(FileNo::Failed) => Err(FetchNo::NotRead),
+        Err(FileNo::Absent) => Err(FetchNo::NotRead),
+        Err(FileNo::Memory) => Err(FetchNo::Memory),
+    }
+}

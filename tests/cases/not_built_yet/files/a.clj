@@ -1,2 +1,0 @@
-(def r (ref 0))
-(dosync (alter r + 1))

@@ -1,1 +1,0 @@
-(println @(ref 1))
