@@ -74,14 +74,14 @@ effects-actors name (effect ∷ effects) s unit actor (inr (inl spawns)) =
 effects-actors name (effect ∷ effects) s unit actor (inr (inr spawned)) =
     let next = takes_effect name s unit effect.what in effects-actors name effects next.0 next.1 actor (inr spawned)
 
-all-weaker : (R A R2 A2 : Name → Type 0) → ((name : Name) → R name → R2 name) → ((name : Name) → A name → A2 name) → (vs : List Value) → All (Within R A NoFuture) vs → All (Within R2 A2 NoFuture) vs
-all-weaker R A R2 A2 refs actors vs all =
-    All-weaker (Within R A NoFuture) (Within R2 A2 NoFuture) (λ v holds. Within-weaker R A NoFuture R2 A2 NoFuture refs actors (λ name none. none) v holds) vs all
+all-weaker : (R A Wider Broader : Name → Type 0) → ((name : Name) → R name → Wider name) → ((name : Name) → A name → Broader name) → (vs : List Value) → All (Within R A NoFuture) vs → All (Within Wider Broader NoFuture) vs
+all-weaker R A Wider Broader refs actors vs all =
+    All-weaker (Within R A NoFuture) (Within Wider Broader NoFuture) (λ v holds. Within-weaker R A NoFuture Wider Broader NoFuture refs actors (λ name none. none) v holds) vs all
 
 -- with more names
-pub effect-weaker : (table : Table) (R A R2 A2 : Name → Type 0) → ((name : Name) → R name → R2 name) → ((name : Name) → A name → A2 name) → (done : What)
-    → EffectWithin table R A done → EffectWithin table R2 A2 done
-effect-weaker table R A R2 A2 refs actors (what.Bytes text) within = tt
-effect-weaker table R A R2 A2 refs actors (what.Send actor message) within = (actors actor within.0, all-weaker R A R2 A2 refs actors message within.1)
-effect-weaker table R A R2 A2 refs actors (what.Spawn actor behaviour state) within = (within.0, all-weaker R A R2 A2 refs actors state within.1)
-effect-weaker table R A R2 A2 refs actors (what.Become behaviour state) within = (within.0, all-weaker R A R2 A2 refs actors state within.1)
+pub effect-weaker : (table : Table) (R A Wider Broader : Name → Type 0) → ((name : Name) → R name → Wider name) → ((name : Name) → A name → Broader name) → (done : What)
+    → EffectWithin table R A done → EffectWithin table Wider Broader done
+effect-weaker table R A Wider Broader refs actors (what.Bytes text) within = tt
+effect-weaker table R A Wider Broader refs actors (what.Send actor message) within = (actors actor within.0, all-weaker R A Wider Broader refs actors message within.1)
+effect-weaker table R A Wider Broader refs actors (what.Spawn actor behaviour state) within = (within.0, all-weaker R A Wider Broader refs actors state within.1)
+effect-weaker table R A Wider Broader refs actors (what.Become behaviour state) within = (within.0, all-weaker R A Wider Broader refs actors state within.1)
