@@ -23,8 +23,6 @@ mod lets;
 mod lists;
 mod locals;
 mod lower;
-#[cfg(test)]
-mod lower_tests;
 mod names;
 mod number;
 mod plan;
@@ -37,8 +35,6 @@ mod special;
 mod stand;
 mod start;
 mod survey;
-#[cfg(test)]
-mod tests;
 mod top;
 mod top_survey;
 mod tops;
