@@ -4,7 +4,6 @@ use Rattle.std.specs.Prelude.{◌==◌, if◌then◌else◌}
 use Rattle.std.proofs.lemmas.Bool.{eqb-true, eqb-false}
 use Rattle.value_core.specs.declared.value.Value.{Value}
 use Rattle.serial_model.specs.declared.end.End.TheVariants as end
-use Rattle.std.specs.BTreeMap.{BTreeMap}
 use Rattle.serial_model.specs.declared.effect.Effect.{Effect}
 use Rattle.serial_model.specs.Log.{Log}
 use Rattle.serial_model.specs.Named.{Name, Named, named, made_by, over}
@@ -22,13 +21,13 @@ abbrev pub Replies : Setup → Name → Now → Now → Bool → Option KeptBeco
 Replies setup name old new made becomes v = Does setup name old new (λ s unit. with_unit s name (settled made becomes unit v))
 
 -- the unit is there in the state that is kept
-unit_there : (setup : Setup) (name : Name) (before : List ℕ) (old : Now) (s : State) (unit : UnitState) → IsNow setup before old s → named name s.units ≡ Some unit → named name (units_of old.units.entries) ≡ Some unit
+unit_there : (setup : Setup) (name : Name) (before : List ℕ) (old : Now) (s : State) (unit : UnitState) → IsNow setup before old s → named name s.units ≡ Some unit → named name (units_of old.units) ≡ Some unit
 unit_there setup name before old s unit at there = subst (λ (t : State). named name t.units ≡ Some unit) (sym at.is) there
 
 -- a change, and an answer to the unit
 pub makes : (setup : Setup) (name : Name) (old mid new : Now) (change : Name → State → State) (v : Name → Value) (copied made : Name)
     → Comes setup old mid (change copied) → Replies setup name mid new true None (v made) → ((n : Name) (s : State) → ¬ (name ≡ n) → named name (change n s).units ≡ named name s.units)
-    → copied ≡ made → ¬ (name ≡ made) → ((unit : UnitState) → named name (units_of old.units.entries) ≡ Some unit → made ≡ made_by name unit.made)
+    → copied ≡ made → ¬ (name ≡ made) → ((unit : UnitState) → named name (units_of old.units) ≡ Some unit → made ≡ made_by name unit.made)
     → Does setup name old new (λ s unit. with_unit (change (made_by name unit.made) s) name (settled true None unit (v (made_by name unit.made))))
 makes setup name old mid new change v copied made comes replies kept same other is before s unit at there =
     subst (λ (n : Name). IsNow setup before new (with_unit (change n s) name (settled true None unit (v n)))) (is unit (unit_there setup name before old s unit at there))
@@ -50,13 +49,13 @@ none_found setup name old look none before s unit at there =
 
 -- in a turn, and outside one
 pub turn_done : (setup : Setup) (name : Name) (old new : Now) (failed : State → State) (act : State → UnitState → Name → State) (actor : Name)
-    → ((unit : UnitState) → named name (units_of old.units.entries) ≡ Some unit → Some actor ≡ unit.actor) → Does setup name old new (λ s unit. act s unit actor)
+    → ((unit : UnitState) → named name (units_of old.units) ≡ Some unit → Some actor ≡ unit.actor) → Does setup name old new (λ s unit. act s unit actor)
     → Does setup name old new (λ s unit. in_turn unit.actor (failed s) (act s unit))
 turn_done setup name old new failed act actor is does before s unit at there =
     subst (λ (o : Option Name). IsNow setup before new (in_turn o (failed s) (act s unit))) (is unit (unit_there setup name before old s unit at there)) (does before s unit at there)
 
 pub no_turn : (setup : Setup) (name : Name) (old new : Now) (failed : State → State) (act : State → UnitState → Name → State)
-    → ((unit : UnitState) → named name (units_of old.units.entries) ≡ Some unit → None ≡ unit.actor) → Comes setup old new failed
+    → ((unit : UnitState) → named name (units_of old.units) ≡ Some unit → None ≡ unit.actor) → Comes setup old new failed
     → Does setup name old new (λ s unit. in_turn unit.actor (failed s) (act s unit))
 no_turn setup name old new failed act is comes before s unit at there =
     subst (λ (o : Option Name). IsNow setup before new (in_turn o (failed s) (act s unit))) (is unit (unit_there setup name before old s unit at there)) (comes before s at)
@@ -94,7 +93,7 @@ pub refs_over : (setup : Setup) (old new : Now) (writes : Named Value) → new �
     → Comes setup old new (λ s. record s { refs = over writes s.refs })
 refs_over setup old new writes others put = comes_from setup old new (λ s. record s { refs = over writes s.refs }) (λ before are. record {
   is = ap (state_after before) others ∙ ap (λ r. record (state_after before old) { refs = r }) put;
-  units = subst (λ (n : Now). AreUnits setup n.units.entries) (sym others) are;
+  units = subst (λ (n : Now). AreUnits setup n.units) (sym others) are;
 })
 
 -- the refs are set, the effects are taken, and the unit is answered
@@ -108,4 +107,4 @@ commits_done setup name old mid taken new log effects becomes v comes takes unit
     subst (λ (es : List Effect). IsNow setup before new (let ended = take_effects name es (record s { refs = over log.writes s.refs }) unit in gets ended.0 name (with_made ended.1) v)) same
     (subst (λ (u : UnitState). IsNow setup before new (gets final.0 name (with_made u) v)) (sym done.1)
     (replies before final.0 unit done.0
-    (subst (λ (t : State). named name t.units ≡ Some unit) done.0.is (ap (λ (us : BTreeMap Name Unit). named name (units_of us.entries)) units ∙ still))))
+    (subst (λ (t : State). named name t.units ≡ Some unit) done.0.is (ap (λ (us : Named Unit). named name (units_of us)) units ∙ still))))

@@ -19,7 +19,7 @@ use Rattle.serial_model.specs.Named.{Name, Named, named, with_named, same_name}
 use Rattle.serial_model.specs.Step.{queue_of, with_queue}
 use Rattle.serial_model.proofs.NamedLaws.{Rises, named-below, below-less, rises-first, rises-rest}
 use Rattle.serial_machine.proofs.NameMaps.{lookup_is_named}
-use Rattle.serial_machine.specs.Units.{each_as, IsChanged, Mail, mail_of, queues_of, IsTaken, IsTakenFrom}
+use Rattle.serial_machine.specs.Units.{each_as, IsChanged, BySender, mail_of, IsTaken, IsTakenFrom}
 
 -- what stands under a name is viewed
 pub named-each_as : {X Y : Type 0} (f : X → Y) (n : Name) (es : Named X) → named n (each_as f es) ≡ option_map f (named n es)
@@ -71,6 +71,15 @@ set_is_put {X} k w y (e ∷ es) rises there = on (after_cmp k e.0) refl there (s
 same_rises : {X : Type 0} (xs ys : Named X) → keys_of xs ≡ keys_of ys → IsStrictlySortedBy after_cmp (keys_of xs) → Rises ys
 same_rises xs ys same sorted = rises_of ys (subst (IsStrictlySortedBy after_cmp) same sorted)
 
+-- a view has the names of what it views
+keys-each_as : {X Y : Type 0} (f : X → Y) (es : Named X) → keys_of (each_as f es) ≡ keys_of es
+keys-each_as f [] = refl
+keys-each_as f (e ∷ es) = ap (λ ks. e.0 ∷ ks) (keys-each_as f es)
+
+-- the names of a view of an ordered map rise
+pub view_rises : {X Y : Type 0} (f : X → Y) (es : Named X) → IsStrictlySortedBy after_cmp (keys_of es) → Rises (each_as f es)
+view_rises f es sorted = rises_of (each_as f es) (subst (IsStrictlySortedBy after_cmp) (sym (keys-each_as f es)) sorted)
+
 -- what is written through the item under a name is put there
 pub written_is_put : {X : Type 0} (k : Name) (old new : BTreeMap Name X) (w y : X) → WritesThrough after_cmp (after_cmp k) old w new → named k old.entries ≡ Some y
     → new.entries ≡ with_named old.entries k w
@@ -98,39 +107,38 @@ abbrev items_of : VecDeque (List Value) Global → List (List Value)
 items_of queue = queue.items
 
 -- a message is appended to a queue that is there, or to a new one
-pub appended : (sender : Name) (message : List Value) (old new : Mail) (w y : VecDeque (List Value) Global) → WritesThrough after_cmp (after_cmp sender) old w new → named sender old.entries ≡ Some y
+pub appended : (sender : Name) (message : List Value) (old new : BySender) (w y : VecDeque (List Value) Global) → WritesThrough after_cmp (after_cmp sender) old w new → named sender old.entries ≡ Some y
     → w.items ≡ y.items ++ message ∷ [] → mail_of new ≡ with_named (mail_of old) sender (unwrap_or (named sender (mail_of old)) [] ++ message ∷ [])
 appended sender message old new w y writes there is =
     view_written items_of sender old new w y writes there
     ∙ ap (with_named (mail_of old) sender) (is ∙ ap (λ found. unwrap_or found [] ++ message ∷ []) (sym (view_found items_of sender old.entries y there)))
 
-pub appended_first : (sender : Name) (message : List Value) (old none new : Mail) (w : VecDeque (List Value) Global) → none ≡ old → new.entries ≡ with_named none.entries sender w → named sender old.entries ≡ None
+pub appended_first : (sender : Name) (message : List Value) (old none new : BySender) (w : VecDeque (List Value) Global) → none ≡ old → new.entries ≡ with_named none.entries sender w → named sender old.entries ≡ None
     → w.items ≡ message ∷ [] → mail_of new ≡ with_named (mail_of old) sender (unwrap_or (named sender (mail_of old)) [] ++ message ∷ [])
 appended_first sender message old still new w same put none is =
-    ap (each_as items_of) (put ∙ ap (λ (m : Mail). with_named m.entries sender w) same) ∙ each_as-with_named items_of sender w old.entries
+    ap (each_as items_of) (put ∙ ap (λ (m : BySender). with_named m.entries sender w) same) ∙ each_as-with_named items_of sender w old.entries
     ∙ ap (with_named (mail_of old) sender) (is ∙ ap (λ found. unwrap_or found [] ++ message ∷ []) (sym (view_none items_of sender old.entries none)))
 
 -- what the messages of an actor become where some are there, and where there are none
-module _ (actor sender : Name) (message : List Value) (old new : BTreeMap Name Mail) where
+module _ (actor sender : Name) (message : List Value) (old new : BTreeMap Name (Named (List (List Value)))) where
   abbrev IsSent : Type 0
-  IsSent = queues_of new.entries ≡ with_queue (queues_of old.entries) actor sender (queue_of (queues_of old.entries) actor sender ++ message ∷ [])
+  IsSent = new.entries ≡ with_queue old.entries actor sender (queue_of old.entries actor sender ++ message ∷ [])
 
-  with_found : (found : Option (Named (List (List Value)))) → named actor (queues_of old.entries) ≡ found
-      → with_named (queues_of old.entries) actor (with_named (unwrap_or found []) sender (unwrap_or (option_and_then (named sender) found) [] ++ message ∷ []))
-      ≡ with_queue (queues_of old.entries) actor sender (queue_of (queues_of old.entries) actor sender ++ message ∷ [])
+  with_found : (found : Option (Named (List (List Value)))) → named actor old.entries ≡ found
+      → with_named old.entries actor (with_named (unwrap_or found []) sender (unwrap_or (option_and_then (named sender) found) [] ++ message ∷ []))
+      ≡ with_queue old.entries actor sender (queue_of old.entries actor sender ++ message ∷ [])
   with_found found is = ap (λ (o : Option (Named (List (List Value)))).
-      with_named (queues_of old.entries) actor (with_named (unwrap_or o []) sender (unwrap_or (option_and_then (named sender) o) [] ++ message ∷ []))) (sym is)
+      with_named old.entries actor (with_named (unwrap_or o []) sender (unwrap_or (option_and_then (named sender) o) [] ++ message ∷ []))) (sym is)
 
-  pub sent_there : (w y : Mail) → WritesThrough after_cmp (after_cmp actor) old w new → named actor old.entries ≡ Some y
-      → mail_of w ≡ with_named (mail_of y) sender (unwrap_or (named sender (mail_of y)) [] ++ message ∷ []) → IsSent
-  sent_there w y writes there is = view_written mail_of actor old new w y writes there ∙ ap (with_named (queues_of old.entries) actor) is
-      ∙ with_found (Some (mail_of y)) (view_found mail_of actor old.entries y there)
+  pub sent_there : (w y : Named (List (List Value))) → WritesThrough after_cmp (after_cmp actor) old w new → named actor old.entries ≡ Some y
+      → w ≡ with_named y sender (unwrap_or (named sender y) [] ++ message ∷ []) → IsSent
+  sent_there w y writes there is = written_is_put actor old new w y writes there ∙ ap (with_named old.entries actor) is ∙ with_found (Some y) there
 
-  pub sent_first : (w empty : Mail) (still : BTreeMap Name Mail) → still ≡ old → new.entries ≡ with_named still.entries actor w → named actor old.entries ≡ None → empty.entries ≡ []
-      → mail_of w ≡ with_named (mail_of empty) sender (unwrap_or (named sender (mail_of empty)) [] ++ message ∷ []) → IsSent
-  sent_first w empty still same put none nothing is = ap (each_as mail_of) (put ∙ ap (λ (m : BTreeMap Name Mail). with_named m.entries actor w) same) ∙ each_as-with_named mail_of actor w old.entries
-      ∙ ap (with_named (queues_of old.entries) actor) (is ∙ ap (λ (es : Named (VecDeque (List Value) Global)). with_named (each_as items_of es) sender (unwrap_or (named sender (each_as items_of es)) [] ++ message ∷ [])) nothing)
-      ∙ with_found None (view_none mail_of actor old.entries none)
+  pub sent_first : (w empty : Named (List (List Value))) (still : BTreeMap Name (Named (List (List Value)))) → still ≡ old → new.entries ≡ with_named still.entries actor w → named actor old.entries ≡ None → empty ≡ []
+      → w ≡ with_named empty sender (unwrap_or (named sender empty) [] ++ message ∷ []) → IsSent
+  sent_first w empty still same put none nothing is = put ∙ ap (λ (m : BTreeMap Name (Named (List (List Value)))). with_named m.entries actor w) same
+      ∙ ap (with_named old.entries actor) (is ∙ ap (λ (es : Named (List (List Value))). with_named es sender (unwrap_or (named sender es) [] ++ message ∷ [])) nothing)
+      ∙ with_found None none
 
 -- what is set in place is set in the view
 each_as-set_value : {X Y : Type 0} (f : X → Y) (k : Name) (w : X) (es : Named X) → each_as f (set_value (is_at (after_cmp k)) es w) ≡ set_value (is_at (after_cmp k)) (each_as f es) (f w)
@@ -149,7 +157,7 @@ view_same f k old new w y writes there same = ap (each_as f) writes.0 ∙ each_a
     ∙ set_value_same (is_at (after_cmp k)) (each_as f old.entries) (f w) (lookup_is_named k (each_as f old.entries) ∙ view_found f k old.entries y there ∙ ap Some (sym same))
 
 -- the first message of a sender is taken
-pub taken_from : (sender : Name) (old new : Mail) (w y : VecDeque (List Value) Global) (taken : Option (List Value)) → WritesThrough after_cmp (after_cmp sender) old w new → named sender old.entries ≡ Some y
+pub taken_from : (sender : Name) (old new : BySender) (w y : VecDeque (List Value) Global) (taken : Option (List Value)) → WritesThrough after_cmp (after_cmp sender) old w new → named sender old.entries ≡ Some y
     → y.items ≡ option_to_list taken ++ w.items → (0 < length y.items → is_some taken ≡ true) → IsTakenFrom (mail_of old) sender (unwrap_or (named sender (mail_of old)) []) (mail_of new) taken
 taken_from sender old new w y taken writes there is some =
     subst (λ (found : List (List Value)). IsTakenFrom (mail_of old) sender found (mail_of new) taken)
@@ -163,34 +171,35 @@ taken_from sender old new w y taken writes there is some =
         let rest : ns ≡ w.items = cc in let same : m ≡ n = cc in
         (ap Some same, view_written items_of sender old new w y writes there ∙ ap (with_named (mail_of old) sender) (sym rest))
 
-pub taken_none : (sender : Name) (old new : Mail) → new ≡ old → named sender old.entries ≡ None → IsTakenFrom (mail_of old) sender (unwrap_or (named sender (mail_of old)) []) (mail_of new) None
+pub taken_none : (sender : Name) (old new : BySender) → new ≡ old → named sender old.entries ≡ None → IsTakenFrom (mail_of old) sender (unwrap_or (named sender (mail_of old)) []) (mail_of new) None
 taken_none sender old new same none =
     subst (λ (o : Option (List (List Value))). IsTakenFrom (mail_of old) sender (unwrap_or o []) (mail_of new) None) (sym (view_none items_of sender old.entries none)) (refl, ap mail_of same)
 
--- the first message that a sender sent to an actor is taken
-pub taken_first : (actor sender : Name) (old new : BTreeMap Name Mail) (w y : Mail) (taken : Option (List Value)) → WritesThrough after_cmp (after_cmp actor) old w new → named actor old.entries ≡ Some y
-    → IsTakenFrom (mail_of y) sender (unwrap_or (named sender (mail_of y)) []) (mail_of w) taken
-    → IsTaken (queues_of old.entries) actor sender (queue_of (queues_of old.entries) actor sender) (queues_of new.entries) taken
-taken_first actor sender old new w y taken writes there from =
-    subst (λ (o : Option (Named (List (List Value)))). IsTaken (queues_of old.entries) actor sender (unwrap_or (option_and_then (named sender) o) []) (queues_of new.entries) taken)
-    (sym found) (on (unwrap_or (named sender (mail_of y)) []) from)
-  where
-    found : named actor (queues_of old.entries) ≡ Some (mail_of y)
-    found = view_found mail_of actor old.entries y there
+-- an item that is written as it was changes nothing
+pub written_same : {X : Type 0} (k : Name) (old new : BTreeMap Name X) (w y : X) → WritesThrough after_cmp (after_cmp k) old w new → named k old.entries ≡ Some y → w ≡ y → new.entries ≡ old.entries
+written_same k old new w y writes there same = writes.0 ∙ set_value_same (is_at (after_cmp k)) old.entries w (lookup_is_named k old.entries ∙ there ∙ ap Some (sym same))
 
-    on : (items : List (List Value)) → IsTakenFrom (mail_of y) sender items (mail_of w) taken → IsTaken (queues_of old.entries) actor sender items (queues_of new.entries) taken
-    on [] is = (is.0, view_same mail_of actor old new w y writes there is.1)
+-- the first message that a sender sent to an actor is taken
+pub taken_first : (actor sender : Name) (old new : BTreeMap Name (Named (List (List Value)))) (w y : Named (List (List Value))) (taken : Option (List Value)) → WritesThrough after_cmp (after_cmp actor) old w new → named actor old.entries ≡ Some y
+    → IsTakenFrom y sender (unwrap_or (named sender y) []) w taken
+    → IsTaken old.entries actor sender (queue_of old.entries actor sender) new.entries taken
+taken_first actor sender old new w y taken writes there from =
+    subst (λ (o : Option (Named (List (List Value)))). IsTaken old.entries actor sender (unwrap_or (option_and_then (named sender) o) []) new.entries taken)
+    (sym there) (on (unwrap_or (named sender y) []) from)
+  where
+    on : (items : List (List Value)) → IsTakenFrom y sender items w taken → IsTaken old.entries actor sender items new.entries taken
+    on [] is = (is.0, written_same actor old new w y writes there is.1)
     on (m ∷ ms) is = (
       is.0,
-      view_written mail_of actor old new w y writes there ∙ ap (with_named (queues_of old.entries) actor) is.1
-          ∙ ap (λ (o : Option (Named (List (List Value)))). with_named (queues_of old.entries) actor (with_named (unwrap_or o []) sender ms)) (sym found),
+      written_is_put actor old new w y writes there ∙ ap (with_named old.entries actor) is.1
+          ∙ ap (λ (o : Option (Named (List (List Value)))). with_named old.entries actor (with_named (unwrap_or o []) sender ms)) (sym there),
     )
 
-pub taken_nowhere : (actor sender : Name) (old new : BTreeMap Name Mail) → new ≡ old → named actor old.entries ≡ None
-    → IsTaken (queues_of old.entries) actor sender (queue_of (queues_of old.entries) actor sender) (queues_of new.entries) None
+pub taken_nowhere : (actor sender : Name) (old new : BTreeMap Name (Named (List (List Value)))) → new ≡ old → named actor old.entries ≡ None
+    → IsTaken old.entries actor sender (queue_of old.entries actor sender) new.entries None
 taken_nowhere actor sender old new same none =
-    subst (λ (o : Option (Named (List (List Value)))). IsTaken (queues_of old.entries) actor sender (unwrap_or (option_and_then (named sender) o) []) (queues_of new.entries) None)
-    (sym (view_none mail_of actor old.entries none)) (refl, ap (λ (m : BTreeMap Name Mail). queues_of m.entries) same)
+    subst (λ (o : Option (Named (List (List Value)))). IsTaken old.entries actor sender (unwrap_or (option_and_then (named sender) o) []) new.entries None)
+    (sym none) (refl, ap (λ (m : BTreeMap Name (Named (List (List Value)))). m.entries) same)
 
 some_same : {X : Type 0} (x y : X) → Some x ≡ Some y → x ≡ y
 some_same x y e = cc

@@ -1,8 +1,12 @@
 pub mod Asked
 pub mod Closing
+pub mod EffectMarks
+pub mod Firsts
 pub mod Forking
 pub mod Kept
 pub mod Knowing
+pub mod Mails
+pub mod Marks
 pub mod NameMaps
 pub mod Nows
 pub mod Replies
@@ -12,3 +16,4 @@ pub mod Standings
 pub mod Takes
 pub mod Transacts
 pub mod Turning
+pub mod Unfinished

@@ -1,6 +1,6 @@
 -- Ordered maps and sets of names keep what maps by name and lists of names say.
 use Rattle.std.proofs.Common.{◌≡◌, ◌∙◌, Bool, true, false, List, [], ◌∷◌, ◌++◌, cond, refl, sym, ap, subst, Some}
-use Rattle.std.specs.Prelude.{◌||◌}
+use Rattle.std.specs.Prelude.{◌||◌, ◌&&◌, not}
 use Rattle.std.specs.declared.cmp.Ordering.{Ordering}
 use Rattle.std.specs.declared.cmp.Ordering.TheVariants.{Less, Equal, Greater}
 use Rattle.std.specs.BTreeMap.{insert_entry, is_at}
@@ -51,6 +51,17 @@ pub added_is_there : (old new : BTreeSet Name) (k : Name)
 added_is_there old new k added q = added q ∙ ap (λ b. cond b true (has_name old q)) (same_name_equiv.symm k q) ∙ turned (same_name q k) (has_name old q)
   where
     turned : (a b : Bool) → cond a true b ≡ (b || a)
+    turned true true = refl
+    turned true false = refl
+    turned false true = refl
+    turned false false = refl
+
+-- a set with one name less has the others
+pub removed_is_gone : (old new : BTreeSet Name) (k : Name)
+    → ((q : Name) → has_name new q ≡ cond (is_at (after_cmp k) q) false (has_name old q)) → (q : Name) → has_name new q ≡ (has_name old q && not (same_name q k))
+removed_is_gone old new k removed q = removed q ∙ ap (λ b. cond b false (has_name old q)) (same_name_equiv.symm k q) ∙ turned (same_name q k) (has_name old q)
+  where
+    turned : (a b : Bool) → cond a false b ≡ (b && not a)
     turned true true = refl
     turned true false = refl
     turned false true = refl

@@ -20,7 +20,7 @@ use Rattle.serial_model.proofs.Replays.{replay_from-step}
 use Rattle.serial_model.proofs.TaskKeeps.{transactions-keep}
 use Rattle.serial_machine.specs.declared.now.Now.{Now}
 use Rattle.serial_machine.specs.Now.{state_after, IsNow, IsStepped}
-use Rattle.serial_machine.specs.Units.{AreUnits, units_of, queues_of}
+use Rattle.serial_machine.specs.Units.{AreUnits, units_of}
 use Rattle.serial_machine.specs.Standing.{IsAdvanced, Stands, end_seen, if_still, if_going}
 use Rattle.serial_machine.proofs.Standings.{not_ended, not_over, over_is_still}
 
@@ -198,7 +198,7 @@ seen_first s seen is =
     ((λ none. both.0 (sym is ∙ none)), (λ some. is ∙ both.1 some))
 
 -- a run begins at the opening
-pub opens : (setup : Setup) (old new : Now) (name : Name) (body : NodeId) (values : List Value) → old.refs.entries ≡ [] → old.units.entries ≡ [] → old.actors.entries ≡ [] → old.queues.entries ≡ [] → old.text.items ≡ []
+pub opens : (setup : Setup) (old new : Now) (name : Name) (body : NodeId) (values : List Value) → old.refs.entries ≡ [] → old.units ≡ [] → old.actors.entries ≡ [] → old.queues ≡ [] → old.text.items ≡ []
     → old.made ≡ 0 → old.end ≡ None → name ≡ main_name → body ≡ setup.program.main → values ≡ []
     → ((before : List ℕ) (s : State) → IsNow setup before old s → IsNow setup before new (with_unit (record s { made = suc s.made }) name (new_unit None body values)))
     → IsNow setup [] new (opening setup)
@@ -214,7 +214,7 @@ opens setup old new name body values refs units actors queues text made none is_
     begun n b vs = with_unit (record start { made = 1 }) n (new_unit None b vs)
 
     at : state_after [] old ≡ start
-    at = λ i. record { refs = refs i; units = units_of (units i); actors = actors i; queues = queues_of (queues i); bytes = text i; made = made i; end = none i }
+    at = λ i. record { refs = refs i; units = units_of (units i); actors = actors i; queues = queues i; bytes = text i; made = made i; end = none i }
 
     no_units : AreUnits setup []
     no_units = λ name unit is. cc
@@ -245,8 +245,8 @@ module _ (program0 program : Table) (limits : Budget) (same : program0 ≡ progr
 
   -- the run's units are those of the program that is read
   pub units_read : (history : List Entry) (output : List ℕ) (ending : End) (now : Now) → Stands (record { program = program; limits = limits }) history output ending (Some now)
-      → AreUnits (record { program = program0; limits = limits }) now.units.entries
-  units_read history output ending now stands = subst (λ p. AreUnits (record { program = p; limits = limits }) now.units.entries) (sym same) stands.at.0.units
+      → AreUnits (record { program = program0; limits = limits }) now.units
+  units_read history output ending now stands = subst (λ p. AreUnits (record { program = p; limits = limits }) now.units) (sym same) stands.at.0.units
 
   pub form_read : IsWellFormed program → IsWellFormed program0
   form_read formed = subst IsWellFormed (sym same) formed

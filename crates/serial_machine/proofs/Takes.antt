@@ -16,41 +16,22 @@ use Rattle.serial_model.specs.declared.end.End.TheVariants as end
 use Rattle.std.proofs.lemmas.Option.{slice_get_cases}
 use Rattle.serial_machine.specs.declared.now.Now.{Now}
 use Rattle.serial_machine.specs.Now.{state_after, IsNow, Comes, IsTurn, BeginsTurn, turn_begun, Steps, IsStepped}
-use Rattle.serial_machine.specs.Units.{has_first, mail_of, queues_of, Mail, IsTaken, IsChanged, turning, AreUnits, idle_of}
+use Rattle.serial_machine.specs.Units.{has_first, IsTaken, IsChanged, turning, AreUnits, idle_of}
 use Rattle.serial_machine.proofs.Kept.{view_found, view_none}
 use Rattle.serial_machine.proofs.Asked.{more_is}
-
-abbrev items_of : VecDeque (List Value) Global → List (List Value)
-items_of queue = queue.items
-
-pub first_is : (n : ℕ) (items : List (List Value)) → n ≡ length items → not (n == 0) ≡ has_first items
-first_is n [] is = ap (λ m. not (m == 0)) is
-first_is n (m ∷ ms) is = ap (λ k. not (k == 0)) is ∙ ap not (more_is (length (m ∷ ms)) 0 (λ same. omega (arith, same)))
-
-module _ (actor sender : Name) (es : Named Mail) where
-  pub waits_there : (mail : Mail) (queue : VecDeque (List Value) Global) → named actor es ≡ Some mail → named sender mail.entries ≡ Some queue → has_first (queue_of (queues_of es) actor sender) ≡ has_first queue.items
-  waits_there mail queue there found = ap (λ (o : Option (Named (List (List Value)))). has_first (unwrap_or (option_and_then (named sender) o) [])) (view_found mail_of actor es mail there)
-      ∙ ap (λ (o : Option (List (List Value))). has_first (unwrap_or o [])) (view_found items_of sender mail.entries queue found)
-
-  pub waits_no_sender : (mail : Mail) → named actor es ≡ Some mail → named sender mail.entries ≡ None → has_first (queue_of (queues_of es) actor sender) ≡ false
-  waits_no_sender mail there none = ap (λ (o : Option (Named (List (List Value)))). has_first (unwrap_or (option_and_then (named sender) o) [])) (view_found mail_of actor es mail there)
-      ∙ ap (λ (o : Option (List (List Value))). has_first (unwrap_or o [])) (view_none items_of sender mail.entries none)
-
-  pub waits_no_actor : named actor es ≡ None → has_first (queue_of (queues_of es) actor sender) ≡ false
-  waits_no_actor none = ap (λ (o : Option (Named (List (List Value)))). has_first (unwrap_or (option_and_then (named sender) o) [])) (view_none mail_of actor es none)
 
 module _ (setup : Setup) (before : List ℕ) (actor sender : Name) where
   -- the first message is taken
   pub took : (old mid : Now) (s : State) (m message : List Value) (messages : List (List Value)) → IsNow setup before old s → mid ≡ record old { queues = mid.queues }
-      → IsTaken (queues_of old.queues.entries) actor sender (queue_of (queues_of old.queues.entries) actor sender) (queues_of mid.queues.entries) (Some m)
+      → IsTaken old.queues actor sender (queue_of old.queues actor sender) (mid.queues) (Some m)
       → queue_of s.queues actor sender ≡ message ∷ messages → (m ≡ message) × IsNow setup before mid (record s { queues = with_queue s.queues actor sender messages })
   took old mid s m message messages at others taken waits =
-      let held : queue_of (queues_of old.queues.entries) actor sender ≡ message ∷ messages = subst (λ (t : State). queue_of t.queues actor sender ≡ message ∷ messages) (sym at.is) waits in
-      let is = subst (λ (q : List (List Value)). IsTaken (queues_of old.queues.entries) actor sender q (queues_of mid.queues.entries) (Some m)) held taken in (
+      let held : queue_of old.queues actor sender ≡ message ∷ messages = subst (λ (t : State). queue_of t.queues actor sender ≡ message ∷ messages) (sym at.is) waits in
+      let is = subst (λ (q : List (List Value)). IsTaken old.queues actor sender q (mid.queues) (Some m)) held taken in (
         some_same m message is.0,
         record {
           is = ap (state_after before) others ∙ ap (λ q. record (state_after before old) { queues = q }) is.1 ∙ ap (λ (t : State). record t { queues = with_queue t.queues actor sender messages }) at.is;
-          units = subst (λ (n : Now). AreUnits setup n.units.entries) (sym others) at.units;
+          units = subst (λ (n : Now). AreUnits setup n.units) (sym others) at.units;
         },
       )
     where
@@ -67,7 +48,7 @@ module _ (setup : Setup) (before : List ℕ) (actor sender : Name) where
       record {
         is = ap (state_after before) others ∙ ap (λ acts. record (state_after before mid) { actors = acts }) (to.put ∙ ap (with_named mid.actors.entries actor) to.related)
             ∙ ap (λ (u : State). record u { actors = with_named u.actors actor (turning acting) }) at.is;
-        units = subst (λ (n : Now). AreUnits setup n.units.entries) (sym others) at.units;
+        units = subst (λ (n : Now). AreUnits setup n.units) (sym others) at.units;
       }
 
 some_same : {X : Type 0} (x y : X) → Some x ≡ Some y → x ≡ y
@@ -75,7 +56,7 @@ some_same x y e = cc
 
 -- a message is taken, a unit begins, and the actor is busy
 pub begun_turn : (setup : Setup) (actor sender : Name) (old mid started new : Now) (name turner : Name) (body : NodeId) (state values m : List Value) → mid ≡ record old { queues = mid.queues }
-    → IsTaken (queues_of old.queues.entries) actor sender (queue_of (queues_of old.queues.entries) actor sender) (queues_of mid.queues.entries) (Some m) → values ≡ state ++ m → turner ≡ actor
+    → IsTaken old.queues actor sender (queue_of old.queues actor sender) (mid.queues) (Some m) → values ≡ state ++ m → turner ≡ actor
     → Comes setup mid started (λ s. with_unit (record s { made = suc s.made }) name (new_unit (Some turner) body values)) → new ≡ record started { actors = new.actors }
     → IsChanged actor started.actors.entries new.actors.entries (λ a b. b ≡ turning a)
     → ((acting : ActorState) → named actor old.actors.entries ≡ Some acting → IsTurn acting actor name body state setup.program) → BeginsTurn setup old new actor sender
@@ -140,7 +121,7 @@ module _ (setup : Setup) (actor sender : Name) (old : Now) where
         (step before s it.acting at there it.same))
 
     -- without a message there is no turn
-    pub no_message : has_first (queue_of (queues_of old.queues.entries) actor sender) ≡ false → Steps setup old old false (takes setup actor sender)
+    pub no_message : has_first (queue_of old.queues actor sender) ≡ false → Steps setup old old false (takes setup actor sender)
     no_message none = by_idle old false (λ before s acting at there same.
         on before s acting at (queue_of s.queues actor sender) (subst (λ (t : State). has_first (queue_of t.queues actor sender) ≡ false) at.is none))
       where
@@ -157,7 +138,7 @@ module _ (setup : Setup) (actor sender : Name) (old : Now) where
         on before s acting at none [] = at
         on before s acting at none (m ∷ ms) = rw none at
 
-    module _ (behaves : Behaviour) (known : slice_get setup.program.behaviours behaviour ≡ Some behaves) (waits : has_first (queue_of (queues_of old.queues.entries) actor sender) ≡ true) where
+    module _ (behaves : Behaviour) (known : slice_get setup.program.behaviours behaviour ≡ Some behaves) (waits : has_first (queue_of old.queues actor sender) ≡ true) where
       -- what a turn comes to is what comes of its first message
       pub by_first : (new : Now) → ((before : List ℕ) (s : State) (acting : ActorState) (m : List Value) (ms : List (List Value)) → IsNow setup before old s → named actor s.actors ≡ Some acting → queue_of s.queues actor sender ≡ m ∷ ms
           → slice_get setup.program.behaviours acting.behaviour ≡ Some behaves

@@ -28,7 +28,7 @@ both_ok (Err e) P Q p q = tt
 module _ (setup : Setup) (name : Name) (old new : Now) (at : Spot) (body : NodeId) (values : List Value) (done : Done) where
   -- the transaction came to that
   abbrev pub Came : Type 0
-  Came = (before : List ℕ) (unit : UnitState) → named name (units_of old.units.entries) ≡ Some unit
+  Came = (before : List ℕ) (unit : UnitState) → named name (units_of old.units) ≡ Some unit
       → IsResult done (transaction (around setup (state_after before old) unit) (next_made name unit) body values)
 
   pub after_it : (outcome : task.Outcome) (flag : Bool) → Came → outcome_of done.end ≡ outcome
@@ -57,7 +57,7 @@ abbrev pub surroundings : Setup → Now → ℕ → Option Name → (Name → Op
 surroundings setup now fuel actor finished = record { program = setup.program; fuel = fuel; actor = actor; store = λ ref. named ref now.refs.entries; finished = finished }
 
 abbrev pub finished_in : Now → Name → Option Value
-finished_in now n = option_and_then (λ (u : Unit). u.value) (named n now.units.entries)
+finished_in now n = option_and_then (λ (u : Unit). u.value) (named n now.units)
 
 -- what the tasks are run with is what the meaning says
 pub around_same : (setup : Setup) (now : Now) (before : List ℕ) (unit : UnitState) (fuel : ℕ) (actor : Option Name) → fuel ≡ setup.limits.fuel → actor ≡ unit.actor
@@ -65,7 +65,7 @@ pub around_same : (setup : Setup) (now : Now) (before : List ℕ) (unit : UnitSt
 around_same setup now before unit fuel actor same_fuel same_actor =
     ap (λ f. surroundings setup now f actor (finished_in now)) same_fuel
     ∙ ap (λ a. surroundings setup now setup.limits.fuel a (finished_in now)) same_actor
-    ∙ ap (λ f. surroundings setup now setup.limits.fuel unit.actor f) (λ i n. finished_of n now.units.entries (named n now.units.entries) refl i)
+    ∙ ap (λ f. surroundings setup now setup.limits.fuel unit.actor f) (λ i n. finished_of n now.units (named n now.units) refl i)
 
 pub came_so : (setup : Setup) (name : Name) (body : NodeId) (values : List Value) (done : Done) (a b : Around) (made due : Name) → a ≡ b → made ≡ due
     → (outcome_of done.end ≡ (transaction a made body values).outcome) × (done.task.log ≡ (transaction a made body values).log) → IsResult done (transaction b due body values)

@@ -1,3 +1,4 @@
+pub mod Codes
 pub mod Logged
 pub mod Map
 pub mod Now

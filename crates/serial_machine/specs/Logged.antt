@@ -1,5 +1,5 @@
 -- How a log is kept.
-use Rattle.std.specs.Prelude.{◌≡◌, ℕ, List, refl}
+use Rattle.std.specs.Prelude.{◌≡◌, ℕ, List, map, refl}
 use Rattle.std.specs.Coded.{Coded, code_by, coded×, coded_list, coded_ℕ}
 use Rattle.std.specs.BTreeSet.{BTreeSet}
 use Rattle.value_core.specs.contracts.value.Value as value
@@ -7,7 +7,7 @@ use Rattle.value_core.specs.declared.value.Value.{Value}
 use Rattle.serial_model.specs.contracts.effect.Effect as effect
 use Rattle.serial_model.specs.declared.effect.Effect.{Effect}
 use Rattle.serial_model.specs.Log.{Log}
-use Rattle.serial_model.specs.Named.{Name, Named, is_among}
+use Rattle.serial_model.specs.Named.{Name, Named, is_among, made_by}
 use Rattle.serial_machine.specs.Map.{has_name}
 
 -- it is stored as its parts
@@ -22,3 +22,11 @@ log_code =
 -- the set has the names of the list and no others
 abbrev pub HasNames : BTreeSet Name → List Name → Type 0
 HasNames set names = (name : Name) → has_name set name ≡ is_among name names
+
+-- the mark of an effect: the task that did it, and its number there
+abbrev pub mark_of : Effect → Name
+mark_of effect = made_by effect.task effect.number
+
+-- the set has the marks of these effects and no others
+abbrev pub HasEffects : BTreeSet Name → List Effect → Type 0
+HasEffects set effects = HasNames set (map mark_of effects)

@@ -14,15 +14,15 @@ use Rattle.serial_machine.specs.declared.task.Done.{Done}
 use Rattle.serial_model.specs.Task.{Result}
 use Rattle.serial_machine.specs.Task.{outcome_of}
 use Rattle.serial_machine.specs.declared.unit.Becoming.{Becoming as KeptBecoming}
-use Rattle.serial_machine.specs.Units.{becoming_of, units_of, queues_of, AreUnits, turning}
+use Rattle.serial_machine.specs.Units.{becoming_of, units_of, AreUnits, turning}
 
 -- the state, where so many bytes were printed before
 abbrev pub state_after : List ℕ → Now → State
 state_after before now = record {
   refs = now.refs.entries;
-  units = units_of now.units.entries;
+  units = units_of now.units;
   actors = now.actors.entries;
-  queues = queues_of now.queues.entries;
+  queues = now.queues;
   bytes = before ++ now.text.items;
   made = now.made;
   end = now.end;
@@ -31,7 +31,7 @@ state_after before now = record {
 -- the run is at that state
 pub record IsNow (setup : Setup) (before : List ℕ) (now : Now) (s : State) : Type 0 where
   pub is : state_after before now ≡ s
-  pub units : AreUnits setup now.units.entries
+  pub units : AreUnits setup now.units
 
 -- it comes to that state from each
 abbrev pub Comes : Setup → Now → Now → (State → State) → Type 0

@@ -34,7 +34,7 @@ around_of a = record {
   fuel = a.fuel;
   actor = option_copied a.actor;
   store = λ ref. named ref a.refs.now.entries;
-  finished = λ name. option_and_then (λ unit. unit.value) (named name a.units.now.entries);
+  finished = λ name. option_and_then (λ unit. unit.value) (named name a.units.now);
 }
 
 -- the view of a task above these: their writes, the later over the earlier

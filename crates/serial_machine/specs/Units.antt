@@ -1,10 +1,11 @@
 -- How units, actors and messages are kept.
-use Rattle.std.specs.Prelude.{◌≡◌, ⊤, ℕ, suc, Bool, true, false, if◌then◌else◌, List, [], ◌∷◌, Option, None, Some}
+use Rattle.std.specs.Prelude.{◌≡◌, ⊤, ℕ, suc, Bool, true, false, not, is_some, if◌then◌else◌, List, [], ◌∷◌, Option, None, Some}
 use Rattle.std.specs.Option.{option_map, option_or, IsSome}
 use Rattle.std.specs.BTreeMap.{BTreeMap}
 use Rattle.std.specs.declared.alloc.Global.{Global}
 use Rattle.std.specs.declared.collections.VecDeque.{VecDeque}
 use Rattle.value_core.specs.declared.value.Value.{Value}
+use Rattle.serial_model.specs.First.{first_sender}
 use Rattle.serial_model.specs.Named.{Name, Named, named, with_named}
 use Rattle.serial_model.specs.State.{Setup, Becoming, UnitState, Queues}
 use Rattle.serial_model.specs.Step.{after_turn, answered, next_of, with_queue}
@@ -16,6 +17,7 @@ use Rattle.serial_model.specs.Carried.{IsThere}
 use Rattle.eval_step.specs.Evaluation.{IsOf, IsAsk, IsAsking}
 use Rattle.serial_machine.specs.declared.unit.Becoming.{Becoming as KeptBecoming}
 use Rattle.serial_machine.specs.declared.unit.Unit.{Unit}
+use Rattle.serial_machine.specs.Map.{holds_at, AgreeBut}
 
 -- the map with another view of each entry
 abbrev pub each_as : {X Y : Type 0} → (X → Y) → Named X → Named Y
@@ -67,14 +69,11 @@ abbrev pub IsChanged : {X : Type 0} → Name → Named X → Named X → (X → 
 IsChanged {X} name old new R = (x : X) → named name old ≡ Some x → IsChangedTo name old new R x
 
 -- the messages of each sender
-abbrev pub Mail : Type 0
-Mail = BTreeMap Name (VecDeque (List Value) Global)
+abbrev pub BySender : Type 0
+BySender = BTreeMap Name (VecDeque (List Value) Global)
 
-abbrev pub mail_of : Mail → Named (List (List Value))
-mail_of mail = each_as (λ (queue : VecDeque (List Value) Global). queue.items) mail.entries
-
-abbrev pub queues_of : Named Mail → Queues
-queues_of queues = each_as mail_of queues
+abbrev pub mail_of : BySender → Named (List (List Value))
+mail_of queues = each_as (λ (queue : VecDeque (List Value) Global). queue.items) queues.entries
 
 -- the first message is taken, and the others stay; where there is none nothing changes
 abbrev pub IsTakenFrom : Named (List (List Value)) → Name → List (List Value) → Named (List (List Value)) → Option (List Value) → Type 0
@@ -125,6 +124,19 @@ abbrev pub IsThereAt : Table → Halt → Type 0
 IsThereAt table (halt.Ask asked at) = IsThere table false asked
 IsThereAt table _ = ⊤
 
+-- a unit that is not finished
+abbrev pub is_unfinished : Unit → Bool
+is_unfinished unit = not (is_some unit.value)
+
+-- the same units are unfinished
+abbrev pub SameUnfinished : Named Unit → Named Unit → Type 0
+SameUnfinished old new = (name : Name) → holds_at is_unfinished (named name new) ≡ holds_at is_unfinished (named name old)
+
+-- the unit of that name is unfinished no more, and the others stay
+pub record IsFinishedIn (name : Name) (old new : Named Unit) : Type 0 where
+  pub finished : holds_at is_unfinished (named name new) ≡ false
+  pub others : AgreeBut name old new
+
 -- the behaviour of an actor that is idle
 abbrev pub idle_of : ActorState → Option ℕ
 idle_of actor = if actor.busy then None else Some actor.behaviour
@@ -132,6 +144,10 @@ idle_of actor = if actor.busy then None else Some actor.behaviour
 abbrev pub has_first : List (List Value) → Bool
 has_first [] = false
 has_first (message ∷ messages) = true
+
+-- a sender has a message
+abbrev pub waits : Named (List (List Value)) → Bool
+waits mail = is_some (first_sender mail)
 
 -- the actor begins a turn
 abbrev pub turning : ActorState → ActorState

@@ -3,7 +3,7 @@ ghost use Rattle.std.specs.Option.{option_copied};
 ghost use Rattle.serial_machine.specs.Tasks.{around_of};
 
 use crate::maps::find;
-use crate::unit::Unit;
+use crate::units::Units;
 use core_syntax::Program;
 use std::collections::BTreeMap;
 use value_core::{Name, Value};
@@ -16,7 +16,7 @@ pub(crate) struct Around<'a> {
     pub(crate) fuel: u64,
     pub(crate) actor: Option<&'a Name>,
     pub(crate) refs: &'a BTreeMap<Name, Value>,
-    pub(crate) units: &'a BTreeMap<Name, Unit>,
+    pub(crate) units: &'a Units,
 }
 
 impl Around<'_> {
@@ -31,7 +31,7 @@ impl Around<'_> {
     pub(crate) fn finished(&self, name: &Name) -> Option<&Value>
         ensures { option_copied result ≡ (around_of self.now).finished name.now }
     {
-        match find(self.units, name) {
+        match self.units.get(name) {
             Some(unit) => unit.value.as_ref(),
             None => None,
         }

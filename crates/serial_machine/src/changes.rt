@@ -7,9 +7,8 @@ ghost use Rattle.serial_model.specs.Step.{sent, spawned, with_unit};
 ghost use Rattle.serial_machine.specs.Now.{Comes};
 ghost use Rattle.serial_machine.specs.Units.{units_of};
 
-use crate::maps::{find, put};
+use crate::maps::put;
 use crate::now::Now;
-use crate::queues::send;
 use crate::unit::Unit;
 use core_syntax::{NodeId, Program};
 use eval_step::Machine;
@@ -46,7 +45,7 @@ impl Now {
         ensures units { self.new.units ≡ self.old.units }
     {
         let sender = sender.copy(alloc)?;
-        send(&mut self.queues, alloc, actor, sender, message)
+        self.queues.send(alloc, actor, sender, message)
     }
 
     /// An actor of that name begins.
@@ -85,12 +84,12 @@ impl Now {
         requires { body.index < length program.now.nodes }
         ensures comes { OnOk result (Comes (record { program = program.now; limits = limits }) self.old self.new
             (λ s. with_unit (record s { made = suc s.made }) name (new_unit actor body values))) }
-        ensures kept { OnOk result ((other : Naming) → ¬ (other ≡ name) → named other self.new.units.entries ≡ named other self.old.units.entries) }
+        ensures kept { OnOk result ((other : Naming) → ¬ (other ≡ name) → named other self.new.units ≡ named other self.old.units) }
     {
         let machine = Machine::start(alloc, body, values, false, limits.fuel())?;
         self.count()?;
-        put(
-            &mut self.units,
+        self.units.begin(
+            alloc,
             name,
             Unit {
                 actor,
@@ -111,10 +110,10 @@ impl Now {
 
     /// The name of the next thing that the unit makes.
     pub(crate) fn next_made(&self, alloc: Global, name: &Name) -> Result<Name, AllocError>
-        ensures value { IfOk result (λ made. (unit : UnitState) → named name.now (units_of self.now.units.entries) ≡ Some unit → made ≡ made_by name.now unit.made) }
+        ensures value { IfOk result (λ made. (unit : UnitState) → named name.now (units_of self.now.units) ≡ Some unit → made ≡ made_by name.now unit.made) }
         ensures other { IfOk result (λ made. ¬ (name.now ≡ made)) }
     {
-        match find(&self.units, name) {
+        match self.units.get(name) {
             Some(unit) => name.child(alloc, unit.made),
             None => Err(AllocError),
         }
@@ -122,9 +121,9 @@ impl Now {
 
     /// The actor whose turn the unit is.
     pub(crate) fn actor_of(&self, name: &Name) -> Option<&Name>
-        ensures { (unit : UnitState) → named name.now (units_of self.now.units.entries) ≡ Some unit → option_copied result ≡ unit.actor }
+        ensures { (unit : UnitState) → named name.now (units_of self.now.units) ≡ Some unit → option_copied result ≡ unit.actor }
     {
-        match find(&self.units, name) {
+        match self.units.get(name) {
             Some(unit) => unit.actor.as_ref(),
             None => None,
         }
@@ -132,9 +131,9 @@ impl Now {
 
     /// The value of the unit of that name, where it is there and finished.
     pub(crate) fn value_of(&self, name: &Name) -> Option<&Value>
-        ensures { option_copied result ≡ option_and_then (λ unit. unit.finished) (named name.now (units_of self.now.units.entries)) }
+        ensures { option_copied result ≡ option_and_then (λ unit. unit.finished) (named name.now (units_of self.now.units)) }
     {
-        match find(&self.units, name) {
+        match self.units.get(name) {
             Some(unit) => unit.value.as_ref(),
             None => None,
         }

@@ -100,7 +100,7 @@ impl Now {
         log: TaskLog,
         value: Value,
     ) -> Result<(), AllocError>
-        requires { AsksAt name.now self.old.units.entries }
+        requires { AsksAt name.now self.old.units }
         ensures { OnOk result ((setup : Setup) → Does setup name.now self.old self.new (λ s unit. row.commits s name.now unit log value)) }
     {
         put_over(alloc, &mut self.refs, log.writes())?;

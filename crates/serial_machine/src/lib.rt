@@ -9,6 +9,7 @@ mod error;
 mod first;
 mod log;
 mod maps;
+mod names;
 mod now;
 mod queues;
 mod requests;

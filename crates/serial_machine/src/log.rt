@@ -1,6 +1,8 @@
-ghost use Rattle.std.specs.Prelude.{◌≡◌, IfOk, OnOk, fold};
+ghost use Rattle.std.specs.Prelude.{◌≡◌, ◌∷◌, ◌++◌, [], IfOk, OnOk, fold};
 ghost use Rattle.std.specs.Option.{option_copied};
 ghost use Rattle.serial_model.specs.Log.{merged, new_log, with_effect, with_made as made_more, with_write, with_missing, is_held as held_in};
+ghost use Rattle.serial_model.specs.declared.effect.Effect.{Effect as Effecting};
+ghost use Rattle.serial_machine.specs.Logged.{mark_of};
 ghost use Rattle.serial_machine.specs.Map.{Rises};
 ghost use Rattle.serial_model.specs.Named.{is_among, named, over, made_by, with_name};
 
@@ -22,11 +24,12 @@ pub(crate) struct TaskLog {
     made: u32,
     own: u32,
     pub(crate) effects: Vec<Effect>,
+    held: BTreeSet<Name>,
 }
 
 impl Model for TaskLog {
     ghost use Rattle.serial_model.specs.Log.{Log};
-    ghost use Rattle.serial_machine.specs.Logged.{log_code, HasNames};
+    ghost use Rattle.serial_machine.specs.Logged.{log_code, HasEffects, HasNames};
     ghost use Rattle.serial_machine.specs.Map.{Rises};
 
     ghost Value = { Log };
@@ -42,7 +45,7 @@ impl Model for TaskLog {
       effects = l.effects.items;
     } };
 
-    ghost invariant = { λ l. HasNames l.among_joined l.joined.items × Rises l.writes.entries };
+    ghost invariant = { λ l. HasNames l.among_joined l.joined.items × Rises l.writes.entries × HasEffects l.held l.effects.items };
 }
 
 impl TaskLog {
@@ -58,6 +61,7 @@ impl TaskLog {
             made: 0,
             own: 0,
             effects: Vec::new(alloc),
+            held: BTreeSet::new(alloc),
         }
     }
 
@@ -109,11 +113,30 @@ impl TaskLog {
     pub(crate) fn act(&mut self, alloc: Global, what: What) -> Result<(), AllocError>
         ensures { OnOk result (self.new ≡ with_effect self.old what) }
     {
+        let mark = self.name.child(alloc, self.own)?;
         let task = self.name.copy(alloc)?;
-        let number = self.own;
+        let effect = Effect {
+            task,
+            number: self.own,
+            what,
+        };
         self.own = self.own.checked_add(1).ok_or(AllocError)?;
-        self.effects.push(Effect { task, number, what })?;
-        Ok(())
+        self.append(mark, effect)
+    }
+
+    /// Appends an effect with its mark.
+    fn append(&mut self, mark: Name, effect: Effect) -> Result<(), AllocError>
+        requires { mark ≡ mark_of effect }
+        ensures { OnOk result (self.new ≡ record self.old { effects = self.old.effects ++ effect ∷ [] }) }
+    {
+        self.effects.reserve(1)?;
+        match self.held.insert(mark) {
+            Ok(_) => {
+                self.effects.push_reserved(effect);
+                Ok(())
+            }
+            Err(_) => Err(AllocError),
+        }
     }
 
     /// Whether the task has joined the future.
@@ -183,15 +206,17 @@ impl TaskLog {
     fn take_effect(&mut self, alloc: Global, effect: &Effect) -> Result<(), AllocError>
         ensures { OnOk result (self.new ≡ record self.old { effects = with_missing self.old.effects effect.now }) }
     {
-        if !self.holds(effect) {
-            self.effects.push(copy_effect(alloc, effect)?)?;
+        let mark = effect.task.child(alloc, effect.number)?;
+        if self.holds(&mark) {
+            return Ok(());
         }
-        Ok(())
+        self.append(mark, copy_effect(alloc, effect)?)
     }
 
-    fn holds(&self, effect: &Effect) -> bool
-        ensures { result ≡ held_in self.now.effects effect.now }
+    /// Whether an effect with that mark is there.
+    fn holds(&self, mark: &Name) -> bool
+        ensures { (effect : Effecting) → mark.now ≡ mark_of effect → result ≡ held_in self.now.effects effect }
     {
-        self.effects.iter().any(|held| held.task == effect.task && held.number == effect.number)
+        self.held.contains(mark)
     }
 }

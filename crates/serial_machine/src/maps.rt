@@ -1,4 +1,4 @@
-ghost use Rattle.std.specs.Prelude.{◌≡◌, OnErr, OnOk};
+ghost use Rattle.std.specs.Prelude.{◌≡◌, None, OnErr, OnOk};
 ghost use Rattle.std.specs.Option.{option_copied};
 ghost use Rattle.serial_model.specs.Named.{named, with_named};
 ghost use Rattle.serial_machine.specs.Map.{Rises};
@@ -25,6 +25,7 @@ pub(crate) fn put<X: Drop>(
     ensures put { OnOk result (map.new.entries ≡ with_named map.old.entries name item) }
     ensures rises { OnOk result (Rises map.old.entries → Rises map.new.entries) }
     ensures same { OnErr result (map.new.entries ≡ map.old.entries) }
+    ensures absent { OnErr result (named name map.old.entries ≡ None) }
 {
     match map.insert(name, item) {
         Ok(_) => Ok(()),

@@ -5,9 +5,9 @@ ghost use Rattle.serial_model.specs.Step.{ended, with_unit};
 ghost use Rattle.serial_machine.specs.Now.{Comes, Does};
 ghost use Rattle.serial_machine.specs.Units.{settled, AsksAt};
 
-use crate::queues::Mail;
-use crate::unit::{Becoming, Unit};
-use crate::units::settle;
+use crate::queues::Queues;
+use crate::unit::Becoming;
+use crate::units::Units;
 use serial_model::{ActorState, End};
 use std::alloc::{AllocError, Global};
 use std::collections::BTreeMap;
@@ -18,9 +18,9 @@ use value_core::{Code, Name, Place, Value};
 #[derive(Drop)]
 pub(crate) struct Now {
     pub(crate) refs: BTreeMap<Name, Value>,
-    pub(crate) units: BTreeMap<Name, Unit>,
+    pub(crate) units: Units,
     pub(crate) actors: BTreeMap<Name, ActorState>,
-    pub(crate) queues: BTreeMap<Name, Mail>,
+    pub(crate) queues: Queues,
     pub(crate) text: Vec<u8>,
     pub(crate) made: u32,
     pub(crate) end: Option<End>,
@@ -67,9 +67,9 @@ impl Now {
         becomes: Option<Becoming>,
         value: Value,
     ) -> Result<(), AllocError>
-        requires { AsksAt name.now self.old.units.entries }
+        requires { AsksAt name.now self.old.units }
         ensures { OnOk result ((setup : Setup) → Does setup name.now self.old self.new (λ s unit. with_unit s name.now (settled made becomes unit value))) }
     {
-        settle(&mut self.units, alloc, name, made, becomes, value)
+        self.units.settle(alloc, name, made, becomes, value)
     }
 }

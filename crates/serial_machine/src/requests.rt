@@ -23,7 +23,7 @@ impl Now {
         name: &Name,
         text: &Text,
     ) -> Result<(), AllocError>
-        requires { AsksAt name.now self.old.units.entries }
+        requires { AsksAt name.now self.old.units }
         ensures { OnOk result ((setup : Setup) → Does setup name.now self.old self.new (λ s unit. row.gets (record s { bytes = s.bytes ++ text.now }) name.now unit value.Nil)) }
     {
         self.print_bytes(text.items())?;
@@ -37,7 +37,7 @@ impl Now {
         name: &Name,
         content: Value,
     ) -> Result<(), AllocError>
-        requires { AsksAt name.now self.old.units.entries }
+        requires { AsksAt name.now self.old.units }
         ensures { OnOk result ((setup : Setup) → Does setup name.now self.old self.new (λ s unit.
             row.gets (record s { refs = with_named s.refs (row.next_made name.now unit) content }) name.now (row.with_made unit) (value.Ref (row.next_made name.now unit)))) }
     {
@@ -53,7 +53,7 @@ impl Now {
         name: &Name,
         asked: &Name,
     ) -> Result<bool, AllocError>
-        requires { AsksAt name.now self.old.units.entries }
+        requires { AsksAt name.now self.old.units }
         ensures { IfOk result (λ done. (setup : Setup) → Tries setup name.now self.old self.new done (λ s unit. row.gets_found s name.now unit (named asked.now s.refs))) }
     {
         match find(&self.refs, asked) {
@@ -76,7 +76,7 @@ impl Now {
         body: NodeId,
         values: Values,
     ) -> Result<(), AllocError>
-        requires asks { AsksAt name.now self.old.units.entries }
+        requires asks { AsksAt name.now self.old.units }
         requires there { body.index < length program.now.nodes }
         ensures { OnOk result (Does (record { program = program.now; limits = limits }) name.now self.old self.new (λ s unit.
             row.if_allowed (record { program = program.now; limits = limits }) s (λ s. row.gets (row.with_unit s (row.next_made name.now unit) (new_unit None body values)) name.now (row.with_made unit) (value.Future (row.next_made name.now unit))))) }
@@ -105,7 +105,7 @@ impl Now {
         name: &Name,
         future: &Name,
     ) -> Result<bool, AllocError>
-        requires { AsksAt name.now self.old.units.entries }
+        requires { AsksAt name.now self.old.units }
         ensures { IfOk result (λ done. (setup : Setup) → Tries setup name.now self.old self.new done (λ s unit. row.gets_found s name.now unit (row.value_of s future.now))) }
     {
         match self.value_of(future) {
@@ -126,7 +126,7 @@ impl Now {
         behaviour: u32,
         state: Values,
     ) -> Result<(), AllocError>
-        requires { AsksAt name.now self.old.units.entries }
+        requires { AsksAt name.now self.old.units }
         ensures { OnOk result ((setup : Setup) → Does setup name.now self.old self.new (λ s unit.
             row.gets (row.spawned s (row.next_made name.now unit) behaviour state) name.now (row.with_made unit) (value.Actor (row.next_made name.now unit)))) }
     {
@@ -143,7 +143,7 @@ impl Now {
         actor: Name,
         message: Values,
     ) -> Result<(), AllocError>
-        requires { AsksAt name.now self.old.units.entries }
+        requires { AsksAt name.now self.old.units }
         ensures { OnOk result ((setup : Setup) → Does setup name.now self.old self.new (λ s unit. row.gets (row.sent s actor name.now message) name.now unit value.Nil)) }
     {
         self.deliver(alloc, actor, name, message)?;
@@ -159,7 +159,7 @@ impl Now {
         behaviour: u32,
         state: Values,
     ) -> Result<(), AllocError>
-        requires { AsksAt name.now self.old.units.entries }
+        requires { AsksAt name.now self.old.units }
         ensures { OnOk result ((setup : Setup) → Does setup name.now self.old self.new (λ s unit.
             row.in_turn unit.actor (row.fails s name.now code.NoTurn at) (λ actor. row.gets s name.now (row.becoming unit behaviour state) value.Nil))) }
     {
@@ -182,7 +182,7 @@ impl Now {
         name: &Name,
         at: Place,
     ) -> Result<(), AllocError>
-        requires { AsksAt name.now self.old.units.entries }
+        requires { AsksAt name.now self.old.units }
         ensures { OnOk result ((setup : Setup) → Does setup name.now self.old self.new (λ s unit.
             row.in_turn unit.actor (row.fails s name.now code.NoTurn at) (λ actor. row.gets s name.now unit (value.Actor actor)))) }
     {

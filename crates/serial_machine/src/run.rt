@@ -12,67 +12,16 @@ ghost use Rattle.serial_machine.specs.Now.{state_after, IsResult, Comes, Does, T
 ghost use Rattle.serial_machine.specs.Units.{AreUnits, AsksAt, IsUnit, IsChanged, IsFreed, IsThereAt, IsGone, IsRun, becoming_of, unit_of, units_of};
 
 use crate::around::Around;
-use crate::maps::find;
 use crate::now::Now;
 use crate::task::{Done, TaskEnd};
 use crate::transact::transact;
-use crate::unit::{Becoming, Unit};
+use crate::unit::Becoming;
 use core_syntax::{NodeId, Program};
 use eval_step::copy_list;
 use serial_model::{ActorState, Halt, Limits, Request};
 use std::alloc::{AllocError, Global};
 use std::collections::BTreeMap;
 use value_core::{Code, Name, Place, Value, Values};
-
-/// The unit goes on to where it stops, where it is there and not finished.
-fn go_on(
-    units: &mut BTreeMap<Name, Unit>,
-    alloc: Global,
-    program: &Program,
-    limits: Limits,
-    name: &Name,
-) -> Result<Option<Halt>, AllocError>
-    requires { AreUnits (record { program = program.now; limits = limits }) units.old.entries }
-    ensures { IfOk result (λ halt. IsRun (record { program = program.now; limits = limits }) name.now units.old.entries units.new.entries halt) }
-{
-    match units.get_mut(name) {
-        Some(unit) => unit.go_on(alloc, program, limits),
-        None => Ok(None),
-    }
-}
-
-impl Unit {
-    fn go_on(
-        &mut self,
-        alloc: Global,
-        program: &Program,
-        limits: Limits,
-    ) -> Result<Option<Halt>, AllocError>
-        requires { IsUnit (record { program = program.now; limits = limits }) self.old }
-        ensures { IfOk result (λ halt. IsGone (record { program = program.now; limits = limits }) self.old self.new halt self.old.value) }
-    {
-        if self.value.is_some() {
-            return Ok(None);
-        }
-        let halt = self.machine.run_to_ask(alloc, program)?;
-        Ok(Some(halt))
-    }
-
-    fn finish(&mut self, value: Value)
-        ensures { self.new ≡ record self.old { value = Some value } }
-    {
-        self.value = Some(value);
-    }
-}
-
-/// The unit is finished with that value.
-fn finish(units: &mut BTreeMap<Name, Unit>, name: &Name, value: Value)
-    ensures { IsChanged name.now units.old.entries units.new.entries (λ unit after. after ≡ record unit { value = Some value }) }
-{
-    if let Some(unit) = units.get_mut(name) {
-        unit.finish(value);
-    }
-}
 
 impl Now {
     /// A transaction: it is committed, or its end is the run's, or it waits.
@@ -86,7 +35,7 @@ impl Now {
         body: NodeId,
         values: Values,
     ) -> Result<bool, AllocError>
-        requires asks { AsksAt name.now self.old.units.entries }
+        requires asks { AsksAt name.now self.old.units }
         requires there { body.index < length program.now.nodes }
         ensures { IfOk result (λ done. Tries (record { program = program.now; limits = limits }) name.now self.old self.new done
             (λ s unit. row.transacts (record { program = program.now; limits = limits }) s name.now unit at body values)) }
@@ -124,7 +73,7 @@ impl Now {
         values: Values,
     ) -> Result<Done, AllocError>
         requires { body.index < length program.now.nodes }
-        ensures { IfOk result (λ done. (before : List ℕ) (unit : UnitState) → named name.now (units_of self.now.units.entries) ≡ Some unit
+        ensures { IfOk result (λ done. (before : List ℕ) (unit : UnitState) → named name.now (units_of self.now.units) ≡ Some unit
             → IsResult done (transaction (row.around (record { program = program.now; limits = limits }) (state_after before self.now) unit) (row.next_made name.now unit) body values)) }
     {
         let made = self.next_made(alloc, name)?;
@@ -148,7 +97,7 @@ impl Now {
         at: Place,
         request: Request,
     ) -> Result<bool, AllocError>
-        requires asks { AsksAt name.now self.old.units.entries }
+        requires asks { AsksAt name.now self.old.units }
         requires there { IsThere program.now false request }
         ensures { IfOk result (λ done. Tries (record { program = program.now; limits = limits }) name.now self.old self.new done
             (λ s unit. row.does (record { program = program.now; limits = limits }) s name.now unit at request)) }
@@ -190,11 +139,11 @@ impl Now {
         name: &Name,
     ) -> Result<bool, AllocError>
         requires well_formed { IsWellFormed program.now }
-        requires units { AreUnits (record { program = program.now; limits = limits }) self.old.units.entries }
+        requires units { AreUnits (record { program = program.now; limits = limits }) self.old.units }
         ensures { IfOk result (λ done. Steps (record { program = program.now; limits = limits }) self.old self.new done
             (λ s. row.run_step (record { program = program.now; limits = limits }) s name.now)) }
     {
-        match go_on(&mut self.units, alloc, program, limits, name)? {
+        match self.units.go_on(alloc, program, limits, name)? {
             Some(halt) => self.follow(alloc, program, limits, name, halt),
             None => Ok(false),
         }
@@ -209,7 +158,7 @@ impl Now {
         name: &Name,
         halt: Halt,
     ) -> Result<bool, AllocError>
-        requires asks { IsAsk halt → AsksAt name.now self.old.units.entries }
+        requires asks { IsAsk halt → AsksAt name.now self.old.units }
         requires there { IsThereAt program.now halt }
         ensures { IfOk result (λ done. Tries (record { program = program.now; limits = limits }) name.now self.old self.new done
             (λ s unit. row.goes_on (record { program = program.now; limits = limits }) s name.now unit halt)) }
@@ -226,7 +175,7 @@ impl Now {
     fn end_unit(&mut self, alloc: Global, name: &Name, value: Value) -> Result<(), AllocError>
         ensures { OnOk result ((setup : Setup) → Does setup name.now self.old self.new (λ s unit. row.finishes s name.now unit value)) }
     {
-        finish(&mut self.units, name, value);
+        self.units.finish(name, value);
         self.release(alloc, name)
     }
 
@@ -235,7 +184,7 @@ impl Now {
         ensures units { self.new.units ≡ self.old.units }
         ensures released { OnOk result ((setup : Setup) → Does setup name.now self.old self.new (λ s unit. row.released unit.actor s unit.becomes)) }
     {
-        match find(&self.units, name) {
+        match self.units.get(name) {
             Some(unit) => match &unit.actor {
                 Some(actor) => free(&mut self.actors, alloc, actor, &unit.becomes),
                 None => Ok(()),

@@ -16,6 +16,8 @@ ghost use Rattle.serial_machine.specs.declared.error.SerialNo.TheVariants as no;
 
 use crate::error::SerialNo;
 use crate::now::Now;
+use crate::queues::Queues;
+use crate::units::Units;
 use core_syntax::Program;
 use serial_model::{End, Entry, History, Limits};
 use std::alloc::{AllocError, Global};
@@ -163,7 +165,7 @@ fn advance(
     entry: &Entry,
 ) -> Result<bool, AllocError>
     requires well_formed { IsWellFormed program.now }
-    requires units { AreUnits (record { program = program.now; limits = limits }) now.old.units.entries }
+    requires units { AreUnits (record { program = program.now; limits = limits }) now.old.units }
     ensures advanced { IfOk result (λ done. (s : Standing) → IsNow (record { program = program.now; limits = limits }) output.old.items now.old s → now.old.text.items ≡ []
         → s.bytes ≡ output.old.items
         → IsAdvanced (record { program = program.now; limits = limits }) s entry.now history.old.items history.new.items output.old.items output.new.items now.new
@@ -196,7 +198,7 @@ fn enact(
     entry: &Entry,
 ) -> Result<bool, AllocError>
     requires well_formed { IsWellFormed program.now }
-    requires units { AreUnits (record { program = program.now; limits = limits }) now.old.units.entries }
+    requires units { AreUnits (record { program = program.now; limits = limits }) now.old.units }
     ensures { IfOk result (λ done. (before : List ℕ) (s : Standing) → IsNow (record { program = program.now; limits = limits }) before now.old s → s.end ≡ None
         → IsStepped (record { program = program.now; limits = limits }) before now.new s (step (record { program = program.now; limits = limits }) s entry.now) done) }
 {
@@ -252,9 +254,9 @@ impl Now {
     {
         let mut now = Now {
             refs: BTreeMap::new(alloc),
-            units: BTreeMap::new(alloc),
+            units: Units::new(alloc),
             actors: BTreeMap::new(alloc),
-            queues: BTreeMap::new(alloc),
+            queues: Queues::new(alloc),
             text: Vec::new(alloc),
             made: 0,
             end: None,

@@ -7,11 +7,10 @@ ghost use Rattle.serial_model.specs.State.{Setup, State};
 ghost use Rattle.serial_model.specs.Step as row;
 ghost use Rattle.serial_model.specs.declared.actor_state.ActorState.{ActorState as Acting};
 ghost use Rattle.serial_machine.specs.Now.{Steps, Comes, BeginsTurn, IsTurn};
-ghost use Rattle.serial_machine.specs.Units.{has_first, idle_of, mail_of, queues_of, turning, IsChanged};
+ghost use Rattle.serial_machine.specs.Units.{idle_of, turning, IsChanged};
 
 use crate::maps::find;
 use crate::now::Now;
-use crate::queues::{Mail, take_first};
 use crate::run::done;
 use core_syntax::{NodeId, Program};
 use eval_step::copy_list;
@@ -19,19 +18,6 @@ use serial_model::{ActorState, End, Limits};
 use std::alloc::{AllocError, Global};
 use std::collections::BTreeMap;
 use value_core::{Name, Value, Values};
-
-/// Whether that sender has a message there.
-fn waits(queues: &BTreeMap<Name, Mail>, actor: &Name, sender: &Name) -> bool
-    ensures { result ≡ has_first (row.queue_of (queues_of queues.now.entries) actor.now sender.now) }
-{
-    match find(queues, actor) {
-        Some(mail) => match find(mail, sender) {
-            Some(queue) => !queue.is_empty(),
-            None => false,
-        },
-        None => false,
-    }
-}
 
 /// The actor begins a turn: its number.
 fn begin(actors: &mut BTreeMap<Name, ActorState>, name: &Name) -> Result<(), AllocError>
@@ -98,7 +84,7 @@ impl Now {
         ensures { OnOk result (BeginsTurn (record { program = program.now; limits = limits }) self.old self.new actor.now sender.now) }
     {
         let (name, body, state) = self.next_turn(alloc, program, actor)?;
-        let Some(message) = take_first(&mut self.queues, actor, sender) else {
+        let Some(message) = self.queues.take(actor, sender) else {
             return Err(AllocError);
         };
         let values = joined(alloc, &state, &message)?;
@@ -147,7 +133,7 @@ impl Now {
         if program.behaviours() <= behaviour {
             return Ok(false);
         }
-        if !waits(&self.queues, actor, sender) {
+        if !self.queues.has_message(actor, sender) {
             return Ok(false);
         }
         if self.made == limits.units() {

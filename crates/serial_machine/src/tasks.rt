@@ -18,6 +18,7 @@ ghost use Rattle.serial_machine.specs.Tasks.{around_of, call_of, here_of, view_o
 use crate::around::Around;
 use crate::log::TaskLog;
 use crate::maps::{find, put};
+use crate::names::add;
 use crate::task::{Done, Task, TaskEnd, new_ref, print, send, set_ref, spawn, turn_into};
 use core_syntax::NodeId;
 use eval_step::Machine;
@@ -545,15 +546,4 @@ fn learn(alloc: Global, known: &mut BTreeSet<Name>, more: &BTreeSet<Name>) -> Re
         add(known, name.copy(alloc)?)?;
     }
     Ok(())
-}
-
-/// Adds a name to those that are known.
-#[tactic(auto, using(crate::proofs::NameMaps::added_is_there))]
-pub(crate) fn add(names: &mut BTreeSet<Name>, name: Name) -> Result<(), AllocError>
-    ensures { IfOk result (λ _. (g : Naming) → has_name names.new g ≡ (has_name names.old g || same_name g name)) }
-{
-    match names.insert(name) {
-        Ok(_) => Ok(()),
-        Err(_) => Err(AllocError),
-    }
 }

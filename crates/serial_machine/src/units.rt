@@ -1,56 +1,143 @@
-ghost use Rattle.std.specs.Prelude.{◌≡◌, IfOk, OnOk, Some, suc, if◌then◌else◌};
-ghost use Rattle.std.specs.Option.{option_or};
-ghost use Rattle.serial_model.specs.Named.{named};
+ghost use Rattle.std.specs.Prelude.{◌≡◌, [], None, Some, OnOk, IfOk};
+ghost use Rattle.std.specs.Option.{option_copied};
+ghost use Rattle.serial_model.specs.First.{first_unit};
+ghost use Rattle.serial_model.specs.Named.{named, with_named};
 ghost use Rattle.serial_model.specs.State.{Setup};
-ghost use Rattle.eval_step.specs.Evaluation.{IsAsking};
-ghost use Rattle.serial_machine.specs.Units.{unit_of, settled, IsUnit, AsksAt, IsChanged};
+ghost use Rattle.serial_machine.specs.Units.{unit_of, units_of, settled, AreUnits, AsksAt, IsChanged, IsFinishedIn, IsRun, IsUnit, SameUnfinished};
 
+use crate::maps::{find, put};
+use crate::names::{add, first, remove};
 use crate::unit::{Becoming, Unit};
-use serial_model::Answer;
+use core_syntax::Program;
+use serial_model::{Halt, Limits};
 use std::alloc::{AllocError, Global};
-use std::collections::BTreeMap;
+use std::collections::{BTreeMap, BTreeSet};
+use std::marker::Model;
 use value_core::{Name, Value};
 
-impl Unit {
-    /// Counts one thing made where that is said, keeps what the actor becomes where that is said, and answers the request.
+/// Units by name, of which it finds the first that is not finished.
+#[derive(Drop)]
+pub(crate) struct Units {
+    all: BTreeMap<Name, Unit>,
+    unfinished: BTreeSet<Name>,
+}
+
+impl Model for Units {
+    ghost use Rattle.serial_model.specs.Named.{Named};
+    ghost use Rattle.serial_machine.specs.declared.unit.Unit.{Unit as Kept};
+    ghost use Rattle.serial_machine.specs.Codes.{units_code};
+    ghost use Rattle.serial_machine.specs.Map.{HasJust};
+    ghost use Rattle.serial_machine.specs.Units.{is_unfinished};
+
+    ghost Value = { Named Kept };
+
+    ghost coded = { units_code };
+
+    ghost view = { λ u. u.all.entries };
+
+    ghost invariant = { λ u. HasJust is_unfinished u.unfinished u.all.entries };
+}
+
+impl Units {
+    /// No units.
+    pub(crate) fn new(alloc: Global) -> Self
+        ensures { result ≡ [] }
+    {
+        Units {
+            all: BTreeMap::new(alloc),
+            unfinished: BTreeSet::new(alloc),
+        }
+    }
+
+    /// The unit of that name.
+    pub(crate) fn get(&self, name: &Name) -> Option<&Unit>
+        ensures { option_copied result ≡ named name.now self.now }
+    {
+        find(&self.all, name)
+    }
+
+    /// The first unit that is not finished.
+    pub(crate) fn first_unfinished(&self) -> Option<&Name>
+        ensures { option_copied result ≡ first_unit (units_of self.now) }
+    {
+        // tells that the names rise
+        let _count = self.all.len();
+        first(&self.unfinished)
+    }
+
+    /// Puts a unit that begins under the name.
+    pub(crate) fn begin(&mut self, alloc: Global, name: Name, unit: Unit) -> Result<(), AllocError>
+        requires { unit.value ≡ None }
+        ensures { OnOk result (self.new ≡ with_named self.old name unit) }
+    {
+        let marked = name.copy(alloc)?;
+        add(&mut self.unfinished, name.copy(alloc)?)?;
+        match put(&mut self.all, name, unit) {
+            Ok(()) => Ok(()),
+            Err(error) => {
+                remove(&mut self.unfinished, &marked);
+                Err(error)
+            }
+        }
+    }
+
+    /// The unit goes on to where it stops, where it is there and not finished.
+    pub(crate) fn go_on(
+        &mut self,
+        alloc: Global,
+        program: &Program,
+        limits: Limits,
+        name: &Name,
+    ) -> Result<Option<Halt>, AllocError>
+        requires { AreUnits (record { program = program.now; limits = limits }) self.old }
+        ensures { IfOk result (λ halt. IsRun (record { program = program.now; limits = limits }) name.now self.old self.new halt) }
+    {
+        go_on(&mut self.all, alloc, program, limits, name)
+    }
+
+    /// The unit's request is settled.
     pub(crate) fn settle(
         &mut self,
         alloc: Global,
+        name: &Name,
         made: bool,
         becomes: Option<Becoming>,
         value: Value,
     ) -> Result<(), AllocError>
-        requires { IsAsking self.old.machine }
-        ensures unit { OnOk result (unit_of self.new ≡ settled made becomes (unit_of self.old) value) }
-        ensures keeps { (setup : Setup) → IsUnit setup self.old → IsUnit setup self.new }
+        requires { AsksAt name.now self.old }
+        ensures { OnOk result (IsChanged name.now self.old self.new
+            (λ unit after. (unit_of after ≡ settled made becomes (unit_of unit) value) × ((setup : Setup) → IsUnit setup unit → IsUnit setup after))) }
     {
-        self.count(made)?;
-        self.turn_into(becomes);
-        self.machine.answer(alloc, Answer::Value(value))
+        settle(&mut self.all, alloc, name, made, becomes, value)
     }
 
-    fn count(&mut self, made: bool) -> Result<(), AllocError>
-        ensures made { OnOk result (self.new.made ≡ (if made then suc self.old.made else self.old.made)) }
-        ensures others { self.new ≡ record self.old { made = self.new.made } }
+    /// The unit is finished with that value.
+    pub(crate) fn finish(&mut self, name: &Name, value: Value)
+        ensures { IsChanged name.now self.old self.new (λ unit after. after ≡ record unit { value = Some value }) }
     {
-        if made {
-            self.made = self.made.checked_add(1).ok_or(AllocError)?;
-        }
-        Ok(())
-    }
-
-    fn turn_into(&mut self, becomes: Option<Becoming>)
-        ensures becomes { self.new.becomes ≡ option_or becomes self.old.becomes }
-        ensures others { self.new ≡ record self.old { becomes = self.new.becomes } }
-    {
-        if becomes.is_some() {
-            self.becomes = becomes;
-        }
+        finish(&mut self.all, name, value);
+        remove(&mut self.unfinished, name);
     }
 }
 
-/// The unit's request is settled.
-pub(crate) fn settle(
+fn go_on(
+    units: &mut BTreeMap<Name, Unit>,
+    alloc: Global,
+    program: &Program,
+    limits: Limits,
+    name: &Name,
+) -> Result<Option<Halt>, AllocError>
+    requires { AreUnits (record { program = program.now; limits = limits }) units.old.entries }
+    ensures run { IfOk result (λ halt. IsRun (record { program = program.now; limits = limits }) name.now units.old.entries units.new.entries halt) }
+    ensures unfinished { SameUnfinished units.old.entries units.new.entries }
+{
+    match units.get_mut(name) {
+        Some(unit) => unit.go_on(alloc, program, limits),
+        None => Ok(None),
+    }
+}
+
+fn settle(
     units: &mut BTreeMap<Name, Unit>,
     alloc: Global,
     name: &Name,
@@ -59,11 +146,22 @@ pub(crate) fn settle(
     value: Value,
 ) -> Result<(), AllocError>
     requires { AsksAt name.now units.old.entries }
-    ensures { OnOk result (IsChanged name.now units.old.entries units.new.entries
+    ensures settled { OnOk result (IsChanged name.now units.old.entries units.new.entries
         (λ unit after. (unit_of after ≡ settled made becomes (unit_of unit) value) × ((setup : Setup) → IsUnit setup unit → IsUnit setup after))) }
+    ensures unfinished { SameUnfinished units.old.entries units.new.entries }
 {
     match units.get_mut(name) {
         Some(unit) => unit.settle(alloc, made, becomes, value),
         None => Ok(()),
+    }
+}
+
+fn finish(units: &mut BTreeMap<Name, Unit>, name: &Name, value: Value)
+    ensures changed { IsChanged name.now units.old.entries units.new.entries (λ unit after. after ≡ record unit { value = Some value }) }
+    ensures finished { IsFinishedIn name.now units.old.entries units.new.entries }
+{
+    match units.get_mut(name) {
+        Some(unit) => unit.finish(value),
+        None => {}
     }
 }

@@ -9,4 +9,4 @@ invariant_of-self-in-Ok c =
     let known = added_has_names c.self.inside.among_joined new c.self.inside.joined.items c.in_ok-known.known c.self.invariant.0 c.in-Ok.ensures.updates.0 in
     let named = subst (λ name. HasNames new (c.self.inside.joined.items ++ name ∷ [])) c.in_ok-known.ensures known in
     let roomy = subst (λ items. HasNames new (items ++ c.in_ok-name.name ∷ [])) (sym c.reserve.ensures.items) named in
-    (subst (HasNames new) (sym c.push_reserved.ensures.items) roomy, c.self.invariant.1)
+    (subst (HasNames new) (sym c.push_reserved.ensures.items) roomy, c.self.invariant.1, c.self.invariant.2)

@@ -8,4 +8,4 @@ use Rattle.serial_machine.proofs.now.Now.next_made.Goals as goal
 
 pub returns-in-Some-clause-value : goal.returns-in-Some-clause-value
 returns-in-Some-clause-value c = IfOk-weaker c.child.result _ _ (λ made is unit there. is ∙ ap (λ (u : UnitState). made_by c.args.name.now u.made)
-    (same_unit c.args.name.now c.args.self.now.units.entries c.in-Some.unit.now unit (option_copied c.find.result) c.find.ensures (ap option_copied c.in-Some.is) there)) c.child.ensures
+    (same_unit c.args.name.now c.args.self.now.units c.in-Some.unit.now unit (option_copied c.get.result) c.get.ensures (ap option_copied c.in-Some.is) there)) c.child.ensures

@@ -10,13 +10,13 @@ use Rattle.serial_machine.proofs.now.Now.release.Goals as goal
 pub returns-in-Some-actor-clause-released : goal.returns-in-Some-actor-clause-released
 returns-in-Some-actor-clause-released c = on_ok_weaker c.free.result (λ freed. λ setup.
     released_actor setup c.args.name.now c.in-Some-actor.actor c.args.self.now (record c.args.self.now { actors = c.free.new.actors }) (option_map becoming_of c.in-Some.unit.now.becomes) freed refl
-    (λ unit there. let same = same_unit c.args.name.now c.args.self.now.units.entries c.in-Some.unit.now unit (option_copied c.find.result) c.find.ensures (ap option_copied c.in-Some.is) there in
+    (λ unit there. let same = same_unit c.args.name.now c.args.self.now.units c.in-Some.unit.now unit (option_copied c.get.result) c.get.ensures (ap option_copied c.in-Some.is) there in
     (sym c.in-Some-actor.is ∙ ap (λ (u : UnitState). u.actor) same, ap (λ (u : UnitState). u.becomes) same))) c.free.ensures
 
 pub returns-in-None-actor-clause-released : goal.returns-in-None-actor-clause-released
 returns-in-None-actor-clause-released c = λ setup. released_none setup c.args.name.now c.args.self.now
-    (λ unit there. sym c.in-None-actor.is ∙ ap (λ (u : UnitState). u.actor) (same_unit c.args.name.now c.args.self.now.units.entries c.in-Some.unit.now unit (option_copied c.find.result) c.find.ensures (ap option_copied c.in-Some.is) there))
+    (λ unit there. sym c.in-None-actor.is ∙ ap (λ (u : UnitState). u.actor) (same_unit c.args.name.now c.args.self.now.units c.in-Some.unit.now unit (option_copied c.get.result) c.get.ensures (ap option_copied c.in-Some.is) there))
 
 pub returns-in-None-clause-released : goal.returns-in-None-clause-released
 returns-in-None-clause-released c = λ setup. released_none setup c.args.name.now c.args.self.now
-    (λ unit there. absurd (no_unit c.args.name.now c.args.self.now.units.entries unit (option_copied c.find.result) c.find.ensures (ap option_copied c.in-None.is) there))
+    (λ unit there. absurd (no_unit c.args.name.now c.args.self.now.units unit (option_copied c.get.result) c.get.ensures (ap option_copied c.in-None.is) there))

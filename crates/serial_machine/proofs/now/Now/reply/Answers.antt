@@ -5,4 +5,4 @@ use Rattle.serial_machine.proofs.now.Now.reply.Goals as goal
 
 pub returns : goal.returns
 returns c = on_ok_weaker c.settle.result (λ changed. λ setup.
-    replied setup c.args.name.now c.args.self.now (record c.args.self.now { units = c.settle.new.units }) c.args.made c.args.becomes c.args.value changed refl) c.settle.ensures
+    replied setup c.args.name.now c.args.self.now (record c.args.self.now { units = c.settle.new.self }) c.args.made c.args.becomes c.args.value changed refl) c.settle.ensures

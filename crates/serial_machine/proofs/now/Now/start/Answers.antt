@@ -7,11 +7,11 @@ use Rattle.serial_machine.proofs.Nows.{started}
 use Rattle.serial_machine.proofs.now.Now.start.Goals as goal
 
 pub returns-clause-comes : goal.returns-clause-comes
-returns-clause-comes c = on_ok_weaker c.put.result (λ put.
-    started (record { program = c.args.program.now; limits = c.args.limits }) c.args.name c.args.actor c.args.body c.args.values c.args.self.now c.count.new.self (record c.count.new.self { units = c.put.new.map })
+returns-clause-comes c = on_ok_weaker c.begin.result (λ put.
+    started (record { program = c.args.program.now; limits = c.args.limits }) c.args.name c.args.actor c.args.body c.args.values c.args.self.now c.count.new.self (record c.count.new.self { units = c.begin.new.self })
     c.in_ok-machine.machine c.in_ok-count.ensures.counted put refl c.in_ok-machine.ensures.body c.in_ok-machine.ensures.values c.in_ok-machine.ensures.answers
-    c.in_ok-machine.ensures.inside (c.in_ok-machine.ensures.fuel ∙ c.fuel.ensures) (c.in_ok-machine.ensures.stands c.args.program.now c.requires)) c.put.ensures.put
+    c.in_ok-machine.ensures.inside (c.in_ok-machine.ensures.fuel ∙ c.fuel.ensures) (c.in_ok-machine.ensures.stands c.args.program.now c.requires)) c.begin.ensures
 
 pub returns-clause-kept : goal.returns-clause-kept
-returns-clause-kept c = on_ok_weaker c.put.result (λ put. λ other apart.
-    ap (named other) put ∙ named-other other c.args.name _ c.count.new.self.units.entries apart ∙ ap (λ (n : Now). named other n.units.entries) c.in_ok-count.ensures.counted) c.put.ensures.put
+returns-clause-kept c = on_ok_weaker c.begin.result (λ put. λ other apart.
+    ap (named other) put ∙ named-other other c.args.name _ c.count.new.self.units apart ∙ ap (λ (n : Now). named other n.units) c.in_ok-count.ensures.counted) c.begin.ensures

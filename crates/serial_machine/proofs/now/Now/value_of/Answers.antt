@@ -6,8 +6,8 @@ use Rattle.serial_machine.proofs.now.Now.value_of.Goals as goal
 
 pub returns-in-Some : goal.returns-in-Some
 returns-in-Some c = c.as_ref.ensures.value ∙ ap (option_and_then (λ (u : Unit). u.value)) (sym (ap option_copied c.in-Some.is))
-    ∙ finished_of c.args.name.now c.args.self.now.units.entries (option_copied c.find.result) c.find.ensures
+    ∙ finished_of c.args.name.now c.args.self.now.units (option_copied c.get.result) c.get.ensures
 
 pub returns-in-None : goal.returns-in-None
 returns-in-None c = ap (option_and_then (λ (u : Unit). u.value)) (sym (ap option_copied c.in-None.is))
-    ∙ finished_of c.args.name.now c.args.self.now.units.entries (option_copied c.find.result) c.find.ensures
+    ∙ finished_of c.args.name.now c.args.self.now.units (option_copied c.get.result) c.get.ensures
