@@ -3,6 +3,7 @@ pub mod Closing
 pub mod EffectMarks
 pub mod Firsts
 pub mod Forking
+pub mod Fresh
 pub mod Kept
 pub mod Knowing
 pub mod Mails

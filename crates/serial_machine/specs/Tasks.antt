@@ -1,6 +1,6 @@
 -- How the tasks of a transaction are kept: the one that runs, those below it that wait for the child they forked, and the
 -- results of those that ended.
-use Rattle.std.specs.Prelude.{◌≡◌, ◌||◌, ℕ, zero, suc, Bool, true, false, List, [], ◌∷◌, ◌++◌, fold, is_some, Option, None, Some}
+use Rattle.std.specs.Prelude.{◌≡◌, ◌||◌, ◌≤◌, ◌<◌, ℕ, zero, suc, Bool, true, false, List, [], ◌∷◌, ◌++◌, fold, is_some, Option, None, Some}
 use Rattle.std.specs.BTreeSet.{BTreeSet}
 use Rattle.std.specs.List.{list_any}
 use Rattle.std.specs.Option.{option_and_then, option_copied}
@@ -106,6 +106,29 @@ IsMet results below task here future found (Some child) = IsMetAs results below 
 -- what was kept is kept
 abbrev pub Extends : Named Done → Named Done → Type 0
 Extends old new = (future : Name) (done : Done) → named future old ≡ Some done → named future new ≡ Some done
+
+-- nothing that the task has yet to make has a result, nor has anything below that
+abbrev pub IsUnmade : Named Done → Log → Type 0
+IsUnmade results log = (k : ℕ) (rest : List ℕ) → log.made ≤ k → named (log.name ++ k ∷ rest) results ≡ None
+
+-- neither that name nor any name below it has a result
+abbrev pub IsFree : Named Done → Name → Type 0
+IsFree results name = (rest : List ℕ) → named (name ++ rest) results ≡ None
+
+-- results are added only below that name
+abbrev pub AddsBelow : Name → Named Done → Named Done → Type 0
+AddsBelow name old new = (g : Name) → ((k : ℕ) (rest : List ℕ) → ¬ (g ≡ name ++ k ∷ rest)) → named g new ≡ named g old
+
+-- the task keeps its name, and what it has made
+pub record KeepsMade (before after : Log) : Type 0 where
+  pub name : after.name ≡ before.name
+  pub made : after.made ≡ before.made
+
+-- results are added only for what the task has made in between, and below that
+pub record AddsMade (old : Named Done) (before : Log) (new : Named Done) (after : Log) : Type 0 where
+  pub name : after.name ≡ before.name
+  pub more : before.made ≤ after.made
+  pub added : (g : Name) → ((k : ℕ) (rest : List ℕ) → before.made ≤ k → k < after.made → ¬ (g ≡ before.name ++ k ∷ rest)) → named g new ≡ named g old
 
 -- the machine evaluates a task's body
 pub record IsMachine (around : Around) (machine : Evaluation) : Type 0 where

@@ -1,6 +1,6 @@
 ghost use Rattle.std.specs.Prelude.{◌≡◌, ◌||◌, suc, true, ◌<◌, [], ◌∷◌, ◌++◌, ℕ, Bool, List, IfOk, IfSome, Some, None, length, unwrap_or};
 ghost use Rattle.std.specs.Option.{option_copied};
-ghost use Rattle.serial_model.specs.Named.{Name as Naming, made_by, named, same_name};
+ghost use Rattle.serial_model.specs.Named.{Name as Naming, made_by, named, same_name, with_named};
 ghost use Rattle.serial_model.specs.declared.answer.Answer.{Answer as Answering};
 ghost use Rattle.serial_model.specs.Task.{Here, Known, asks, closes, forks, gets_found, joins_found, result_of, read_in, task, task_step, turns as turns_of};
 ghost use Rattle.serial_model.specs.Log.{new_log, with_made};
@@ -13,7 +13,7 @@ ghost use Rattle.serial_model.specs.Carried.{IsThere};
 ghost use Rattle.serial_model.specs.Eval.{next};
 ghost use Rattle.serial_machine.specs.declared.tasks.Reply.TheVariants as reply;
 ghost use Rattle.serial_machine.specs.Map.{has_name};
-ghost use Rattle.serial_machine.specs.Tasks.{around_of, call_of, here_of, view_of, knows_below, end_met, with_top, IsAt, IsThereAt, IsClosed, IsFinal, IsResult, IsJoined, IsMet, IsTakenIn, IsEnded, IsMoved, IsReply, Extends, IsMachine, Knows};
+ghost use Rattle.serial_machine.specs.Tasks.{around_of, call_of, here_of, view_of, knows_below, end_met, with_top, IsAt, IsThereAt, IsClosed, IsFinal, IsResult, IsJoined, IsMet, IsTakenIn, IsEnded, IsMoved, IsReply, Extends, IsMachine, Knows, AddsBelow, AddsMade, IsFree, IsUnmade, KeepsMade};
 
 use crate::around::Around;
 use crate::log::TaskLog;
@@ -88,9 +88,11 @@ impl Tasks {
         levels: u32,
         request: Request,
     ) -> Result<Reply, AllocError>
-        requires { IsThere (around_of around.now).program true request }
+        requires there { IsThere (around_of around.now).program true request }
+        requires unmade { IsUnmade self.old.results.entries self.old.top.log }
         ensures below { IfOk result (λ _. self.new.below.items ≡ self.old.below.items) }
         ensures results { IfOk result (λ _. Extends self.old.results.entries self.new.results.entries) }
+        ensures made { IfOk result (λ _. AddsMade self.old.results.entries self.old.top.log self.new.results.entries self.new.top.log) }
         ensures reply { IfOk result (λ found. (answers : List Answering) (known : Known) → Knows self.old.results.entries self.old.below.items self.old.top.known known
             → IsReply self.new.results.entries self.new.below.items self.new.top answers found
             (asks (around_of around.now) (call_of (around_of around.now) levels) (view_of self.old.below.items) (here_of answers self.old.top.log known) request)) }
@@ -146,6 +148,7 @@ impl Tasks {
     fn read(&mut self, alloc: Global, around: &Around, name: &Name) -> Result<Reply, AllocError>
         ensures below { self.new.below.items ≡ self.old.below.items }
         ensures results { self.new.results.entries ≡ self.old.results.entries }
+        ensures made { IfOk result (λ _. KeepsMade self.old.top.log self.new.top.log) }
         ensures reply { IfOk result (λ found. (answers : List Answering) (known : Known) → Knows self.old.results.entries self.old.below.items self.old.top.known known
             → IsReply self.new.results.entries self.new.below.items self.new.top answers found
             (gets_found (here_of answers self.old.top.log known) (read_in (around_of around.now) (view_of self.old.below.items) self.old.top.log name.now))) }
@@ -173,6 +176,7 @@ impl Tasks {
     fn join(&mut self, alloc: Global, around: &Around, future: &Name) -> Result<Reply, AllocError>
         ensures below { self.new.below.items ≡ self.old.below.items }
         ensures results { self.new.results.entries ≡ self.old.results.entries }
+        ensures made { IfOk result (λ _. KeepsMade self.old.top.log self.new.top.log) }
         ensures reply { IfOk result (λ found. (answers : List Answering) (known : Known) → Knows self.old.results.entries self.old.below.items self.old.top.known known
             → IsReply self.new.results.entries self.new.below.items self.new.top answers found
             (joins_found (around_of around.now) (here_of answers self.old.top.log known) future.now (result_of future.now known))) }
@@ -187,7 +191,7 @@ impl Tasks {
         }
     }
 
-    /// A fork runs its child at once; at the last level it fails.
+    /// A fork runs its child at once, under a name that has no result yet; at the last level it fails.
     #[cycle(task)]
     fn fork(
         &mut self,
@@ -197,9 +201,11 @@ impl Tasks {
         body: NodeId,
         values: Values,
     ) -> Result<Answer, AllocError>
-        requires { body.index < length (around_of around.now).program.nodes }
+        requires body { body.index < length (around_of around.now).program.nodes }
+        requires unmade { IsUnmade self.old.results.entries self.old.top.log }
         ensures below { IfOk result (λ _. self.new.below.items ≡ self.old.below.items) }
         ensures results { IfOk result (λ _. Extends self.old.results.entries self.new.results.entries) }
+        ensures made { IfOk result (λ _. AddsMade self.old.results.entries self.old.top.log self.new.results.entries self.new.top.log) }
         ensures reply { IfOk result (λ given. (answers : List Answering) (known : Known) → Knows self.old.results.entries self.old.below.items self.old.top.known known
             → IsReply self.new.results.entries self.new.below.items self.new.top answers (reply.Answer given)
             (forks (call_of (around_of around.now) levels) (view_of self.old.below.items) (here_of answers self.old.top.log known) body values)) }
@@ -210,13 +216,8 @@ impl Tasks {
         let future = self.top.log.next_made(alloc)?;
         let name = future.copy(alloc)?;
         let done = self.run(alloc, around, levels - 1, name, body, values)?;
-        match find(&self.results, &future) {
-            Some(_) => Err(AllocError),
-            None => {
-                let answer = self.keep(alloc, future, done)?;
-                Ok(answer)
-            }
-        }
+        let answer = self.keep(alloc, future, done)?;
+        Ok(answer)
     }
 
     /// Keeps the result of a child that the running task forked.
@@ -225,6 +226,7 @@ impl Tasks {
         ensures below { self.new.below.items ≡ self.old.below.items }
         ensures results { IfOk result (λ _. Extends self.old.results.entries self.new.results.entries) }
         ensures kept { IfOk result (λ _. named future self.new.results.entries ≡ Some done) }
+        ensures put { IfOk result (λ _. self.new.results.entries ≡ with_named self.old.results.entries future done) }
         ensures known { IfOk result (λ _. (g : Naming) → has_name self.new.top.known g ≡ (has_name self.old.top.known g || same_name g future)) }
         ensures log { IfOk result (λ _. self.new.top.log ≡ with_made self.old.top.log) }
         ensures answer { IfOk result (λ given. given ≡ answer_of.Value (value_of.Future future)) }
@@ -247,10 +249,12 @@ impl Tasks {
         body: NodeId,
         values: Values,
     ) -> Result<Done, AllocError>
-        requires { body.index < length (around_of around.now).program.nodes }
+        requires body { body.index < length (around_of around.now).program.nodes }
+        requires free { IsFree self.old.results.entries name }
         ensures top { IfOk result (λ _. self.new.top ≡ self.old.top) }
         ensures below { IfOk result (λ _. self.new.below.items ≡ self.old.below.items) }
         ensures results { IfOk result (λ _. Extends self.old.results.entries self.new.results.entries) }
+        ensures below_name { IfOk result (λ _. AddsBelow name self.old.results.entries self.new.results.entries) }
         ensures done { IfOk result (λ done. (known : Known) → Knows self.old.results.entries self.old.below.items self.old.top.known known
             → IsResult self.new.results.entries (with_top self.old.below.items self.old.top) done.task done.end
             (task (around_of around.now) levels name body values (view_of (with_top self.old.below.items self.old.top)) known)) }
@@ -269,10 +273,12 @@ impl Tasks {
         name: Name,
         machine: &mut Machine,
     ) -> Result<Done, AllocError>
-        requires { IsMachine (around_of around.now) machine.old }
+        requires machine { IsMachine (around_of around.now) machine.old }
+        requires free { IsFree self.old.results.entries name }
         ensures top { IfOk result (λ _. self.new.top ≡ self.old.top) }
         ensures below { IfOk result (λ _. self.new.below.items ≡ self.old.below.items) }
         ensures results { IfOk result (λ _. Extends self.old.results.entries self.new.results.entries) }
+        ensures below_name { IfOk result (λ _. AddsBelow name self.old.results.entries self.new.results.entries) }
         ensures done { IfOk result (λ done. (known : Known) → Knows self.old.results.entries self.old.below.items self.old.top.known known
             → IsResult self.new.results.entries (with_top self.old.below.items self.old.top) done.task done.end
             (turns_of (around_of around.now) (call_of (around_of around.now) levels) machine.old.body machine.old.values (view_of (with_top self.old.below.items self.old.top))
@@ -323,9 +329,11 @@ impl Tasks {
         levels: u32,
         machine: &mut Machine,
     ) -> Result<TaskEnd, AllocError>
-        requires { IsMachine (around_of around.now) machine.old }
+        requires machine { IsMachine (around_of around.now) machine.old }
+        requires unmade { IsUnmade self.old.results.entries self.old.top.log }
         ensures below { IfOk result (λ _. self.new.below.items ≡ self.old.below.items) }
         ensures results { IfOk result (λ _. Extends self.old.results.entries self.new.results.entries) }
+        ensures made { IfOk result (λ _. AddsMade self.old.results.entries self.old.top.log self.new.results.entries self.new.top.log) }
         ensures ended { IfOk result (λ end. (known : Known) → Knows self.old.results.entries self.old.below.items self.old.top.known known
             → IsResult self.new.results.entries self.new.below.items self.new.top end
             (turns_of (around_of around.now) (call_of (around_of around.now) levels) machine.old.body machine.old.values (view_of self.old.below.items)
@@ -352,11 +360,13 @@ impl Tasks {
         levels: u32,
         machine: &mut Machine,
     ) -> Result<Option<TaskEnd>, AllocError>
-        requires { IsMachine (around_of around.now) machine.old }
+        requires machine { IsMachine (around_of around.now) machine.old }
+        requires unmade { IsUnmade self.old.results.entries self.old.top.log }
         ensures machine { IfOk result (λ _. IsMachine (around_of around.now) machine.new) }
         ensures same { IfOk result (λ _. IsSameTask machine.old machine.new) }
         ensures below { IfOk result (λ _. self.new.below.items ≡ self.old.below.items) }
         ensures results { IfOk result (λ _. Extends self.old.results.entries self.new.results.entries) }
+        ensures made { IfOk result (λ _. AddsMade self.old.results.entries self.old.top.log self.new.results.entries self.new.top.log) }
         ensures moved { IfOk result (λ end. (known : Known) → Knows self.old.results.entries self.old.below.items self.old.top.known known
             → IsMoved self.new.results.entries self.new.below.items self.new.top machine.new.answers end
             (task_step (around_of around.now) (call_of (around_of around.now) levels) machine.old.body machine.old.values (view_of self.old.below.items)
@@ -383,10 +393,12 @@ impl Tasks {
         requires there { IsThere (around_of around.now).program true request }
         requires machine { IsMachine (around_of around.now) machine.old }
         requires asking { IsAsking machine.old }
+        requires unmade { IsUnmade self.old.results.entries self.old.top.log }
         ensures machine { IfOk result (λ _. IsMachine (around_of around.now) machine.new) }
         ensures same { IfOk result (λ _. IsSameTask machine.old machine.new) }
         ensures below { IfOk result (λ _. self.new.below.items ≡ self.old.below.items) }
         ensures results { IfOk result (λ _. Extends self.old.results.entries self.new.results.entries) }
+        ensures made { IfOk result (λ _. AddsMade self.old.results.entries self.old.top.log self.new.results.entries self.new.top.log) }
         ensures moved { IfOk result (λ end. (known : Known) → Knows self.old.results.entries self.old.below.items self.old.top.known known
             → IsMoved self.new.results.entries self.new.below.items self.new.top machine.new.answers end
             (asks (around_of around.now) (call_of (around_of around.now) levels) (view_of self.old.below.items) (here_of machine.old.answers self.old.top.log known) request)) }
@@ -404,6 +416,7 @@ impl Tasks {
     fn close(&mut self, alloc: Global, value: Value) -> Result<TaskEnd, AllocError>
         ensures below { self.new.below.items ≡ self.old.below.items }
         ensures results { self.new.results.entries ≡ self.old.results.entries }
+        ensures made { IfOk result (λ _. KeepsMade self.old.top.log self.new.top.log) }
         ensures closed { IfOk result (λ end. (answers : List Answering) (known : Known) → Knows self.old.results.entries self.old.below.items self.old.top.known known
             → IsFinal self.new.results.entries self.new.below.items self.new.top end (closes value 0 self.old.top.log.made (here_of answers self.old.top.log known))) }
     {
@@ -417,6 +430,7 @@ impl Tasks {
     fn close_children(&mut self, alloc: Global) -> Result<Option<TaskEnd>, AllocError>
         ensures below { self.new.below.items ≡ self.old.below.items }
         ensures results { self.new.results.entries ≡ self.old.results.entries }
+        ensures made { IfOk result (λ _. KeepsMade self.old.top.log self.new.top.log) }
         ensures closed { IfOk result (λ end. (v : Datum) (answers : List Answering) (known : Known) → Knows self.old.results.entries self.old.below.items self.old.top.known known
             → IsFinal self.new.results.entries self.new.below.items self.new.top (unwrap_or end (end_of.Value v)) (closes v 0 self.old.top.log.made (here_of answers self.old.top.log known))) }
     {
@@ -433,6 +447,7 @@ impl Tasks {
     fn close_child(&mut self, alloc: Global, number: u32) -> Result<Option<TaskEnd>, AllocError>
         ensures below { self.new.below.items ≡ self.old.below.items }
         ensures results { self.new.results.entries ≡ self.old.results.entries }
+        ensures made { IfOk result (λ _. KeepsMade self.old.top.log self.new.top.log) }
         ensures closed { IfOk result (λ end. (here : Here) → IsAt self.old.results.entries self.old.below.items self.old.top here
             → IsClosed self.new.results.entries self.new.below.items self.new.top here (made_by self.old.top.log.name number) end) }
     {
@@ -454,6 +469,7 @@ impl Tasks {
     pub(crate) fn meet(&mut self, alloc: Global, future: &Name) -> Result<Met, AllocError>
         ensures below { self.new.below.items ≡ self.old.below.items }
         ensures results { self.new.results.entries ≡ self.old.results.entries }
+        ensures made { IfOk result (λ _. KeepsMade self.old.top.log self.new.top.log) }
         ensures met { IfOk result (λ found. (here : Here) → IsAt self.old.results.entries self.old.below.items self.old.top here
             → IsMet self.new.results.entries self.new.below.items self.new.top here future.now found (result_of future.now here.known)) }
     {

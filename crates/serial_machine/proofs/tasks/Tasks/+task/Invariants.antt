@@ -2,7 +2,7 @@ use Rattle.std.proofs.Common.{◌≡◌, ◌+◌, ◌-◌, ◌*◌, suc}
 use Rattle.serial_model.specs.Task.{Known}
 use Rattle.serial_model.specs.Task.{turns as turns_of}
 use Rattle.eval_step.specs.Evaluation.{IsSameTask}
-use Rattle.serial_machine.specs.Tasks.{around_of, call_of, here_of, view_of, Knows, Extends, IsMachine}
+use Rattle.serial_machine.specs.Tasks.{around_of, call_of, here_of, view_of, Knows, AddsMade, Extends, IsMachine, IsUnmade}
 use Rattle.serial_machine.proofs.Turning.{Turning}
 use Rattle.serial_machine.proofs.tasks.Tasks.+task.Given as goal
 
@@ -34,6 +34,8 @@ invariant-turns-loop l = record {
   below : l.self.below.items ≡ l.fn.self.below.items;
   end : l.end ≡ l.around.fuel;
   results : Extends l.fn.self.results.entries l.self.results.entries;
+  made : AddsMade l.fn.self.results.entries l.fn.self.top.log l.self.results.entries l.self.top.log;
+  unmade : IsUnmade l.self.results.entries l.self.top.log;
   turning : (known : Known) → Knows l.fn.self.results.entries l.fn.self.below.items l.fn.self.top.known known
       → Turning (around_of l.around) (call_of (around_of l.around) l.levels) l.fn.machine.body l.fn.machine.values l.self.results.entries l.fn.self.below.items l.self.top l.machine.answers (suc (l.end - l.counter))
       (turns_of (around_of l.around) (call_of (around_of l.around) l.levels) l.fn.machine.body l.fn.machine.values (view_of l.fn.self.below.items) (suc l.around.fuel) (here_of l.fn.machine.answers l.fn.self.top.log known));

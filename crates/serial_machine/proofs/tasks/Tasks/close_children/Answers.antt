@@ -2,6 +2,7 @@ use Rattle.std.proofs.Common.{◌≡◌, ◌∙◌, ◌-◌, ◌+◌, ◌<◌, �
 use Rattle.serial_model.specs.Named.{made_by}
 use Rattle.serial_model.specs.Task.{closes}
 use Rattle.serial_machine.specs.Tasks.{here_of, IsClosed}
+use Rattle.serial_machine.proofs.Fresh.{keeps_both}
 use Rattle.serial_machine.proofs.Closing.{closing_more_by, closing_ends_by, closing_done}
 use Rattle.serial_machine.proofs.tasks.Tasks.close_children.Goals as goal
 
@@ -21,6 +22,7 @@ pub loop-number-init : goal.loop-number-init
 loop-number-init c = record {
   below = refl;
   results = refl;
+  made = record { name = refl; made = refl };
   number_end = c.made-number-end.ensures;
   closing = λ v answers known knows. record {
     here = here_of answers c.args.self.now.top.log known;
@@ -45,6 +47,7 @@ pub loop-number-preserved : goal.loop-number-preserved
 loop-number-preserved c = record {
   below = c.in_ok-end.ensures.below ∙ c.loop-number.invariant.below;
   results = c.in_ok-end.ensures.results ∙ c.loop-number.invariant.results;
+  made = keeps_both c.args.self.now.top.log c.loop-number.self.top.log c.close_child.new.self.top.log c.loop-number.invariant.made c.in_ok-end.ensures.made;
   number_end = c.loop-number.invariant.number_end;
   closing = λ v answers known knows.
       let before = c.loop-number.invariant.closing v answers known knows in

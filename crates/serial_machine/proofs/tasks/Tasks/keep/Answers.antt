@@ -12,3 +12,6 @@ pub returns-clause-kept : goal.returns-clause-kept
 returns-clause-kept c =
     new_there c.args.self.now.results.entries c.put.new.map.entries c.args.future c.args.done
     (c.in_ok-put.ensures.put ∙ ap (λ name. with_named c.args.self.now.results.entries name c.args.done) c.in_ok-name.ensures)
+
+pub returns-clause-put : goal.returns-clause-put
+returns-clause-put c = c.in_ok-put.ensures.put ∙ ap (λ name. with_named c.args.self.now.results.entries name c.args.done) c.in_ok-name.ensures
