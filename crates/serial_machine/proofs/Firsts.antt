@@ -1,15 +1,13 @@
 -- The first unit, sender and actor for which there is something to do.
-use Rattle.std.proofs.Common.{◌≡◌, ◌∙◌, Bool, true, false, cond, [], ◌∷◌, ◌++◌, List, refl, sym, ap, subst, Option, Some, None}
-use Rattle.std.specs.Prelude.{not, is_some, unwrap_or, if◌then◌else◌}
-use Rattle.std.specs.Option.{option_map, option_or, option_and_then}
+use Rattle.std.proofs.Common.{◌≡◌, ◌∙◌, Bool, true, false, cond, [], ◌∷◌, List, refl, sym, ap, subst, Option, Some, None}
+use Rattle.std.specs.Prelude.{not, is_some, if◌then◌else◌}
+use Rattle.std.specs.Option.{option_map, option_or}
 use Rattle.value_core.specs.declared.value.Value.{Value}
-use Rattle.serial_model.specs.declared.entry.Entry.{Entry}
 use Rattle.serial_model.specs.declared.entry.Entry.TheVariants.{Take}
 use Rattle.serial_model.specs.First.{if_unfinished, if_waiting, first_unit, first_sender, first_message}
-use Rattle.serial_model.specs.Named.{Name, Named, named, with_named, same_name}
-use Rattle.serial_model.proofs.NamedLaws.{named-here, named-first, same_name-equal}
+use Rattle.serial_model.specs.Named.{Name, Named, named, same_name}
+use Rattle.serial_model.proofs.NamedLaws.{named-first, same_name-equal}
 use Rattle.serial_machine.specs.declared.unit.Unit.{Unit}
-use Rattle.serial_machine.specs.Map.{holds_at}
 use Rattle.serial_machine.specs.Units.{units_of, is_unfinished, has_first, waits}
 use Rattle.serial_machine.proofs.Marks.{first_name}
 

@@ -1,13 +1,12 @@
 -- Which senders have messages, and which actors have mail, after a change.
-use Rattle.std.proofs.Common.{◌≡◌, ◌∙◌, ℕ, Bool, true, false, List, [], ◌∷◌, ◌++◌, refl, sym, ap, subst, Option, Some, None, length, arith}
-use Rattle.std.specs.Prelude.{◌==◌, not, is_some, unwrap_or}
+use Rattle.std.proofs.Common.{◌≡◌, ◌∙◌, ℕ, true, false, List, [], ◌∷◌, ◌++◌, refl, sym, ap, subst, Option, Some, None, length, arith}
+use Rattle.std.specs.Prelude.{◌==◌, not, unwrap_or}
 use Rattle.std.specs.Option.{option_and_then}
 use Rattle.std.specs.BTreeMap.{BTreeMap}
 use Rattle.std.specs.BTreeSet.{BTreeSet}
 use Rattle.std.specs.declared.alloc.Global.{Global}
 use Rattle.std.specs.declared.collections.VecDeque.{VecDeque}
 use Rattle.value_core.specs.declared.value.Value.{Value}
-use Rattle.serial_model.specs.First.{first_sender}
 use Rattle.serial_model.specs.Named.{Name, Named, named, with_named}
 use Rattle.serial_model.specs.State.{Queues}
 use Rattle.serial_model.specs.Step.{queue_of, with_queue}

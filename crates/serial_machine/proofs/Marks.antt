@@ -8,7 +8,7 @@ use Rattle.std.specs.Ordering.{is_gt}
 use Rattle.value_core.specs.Name.{after_cmp}
 use Rattle.value_core.proofs.Names.{after_cmp-IsAntisymmetric}
 use Rattle.serial_model.specs.Named.{Name, Named, named, with_named, same_name}
-use Rattle.serial_model.proofs.NamedLaws.{Rises, named-with_named, named-before, named-first, named-rest, rises-rest, same_name-equal, same_name-itself}
+use Rattle.serial_model.proofs.NamedLaws.{Rises, named-with_named, named-before, named-first, named-rest, rises-rest, same_name-equal}
 use Rattle.serial_machine.specs.Map.{has_name, holds_at, AgreeBut, HasJust, IsFirst, IsWith, IsWithout}
 
 -- what is put under a name changes nothing else

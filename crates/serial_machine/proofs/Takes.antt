@@ -1,10 +1,8 @@
 -- How an actor begins a turn.
 use Rattle.std.proofs.Common.{◌≡◌, ◌∙◌, ◌⊎◌, inl, inr, get_or, ◌<◌, ◌≤◌, ℕ, suc, Bool, true, false, List, [], ◌∷◌, ◌++◌, refl, sym, ap, subst, Option, Some, None, length, arith}
-use Rattle.std.specs.Prelude.{◌==◌, not, unwrap_or, if◌then◌else◌}
+use Rattle.std.specs.Prelude.{◌==◌, if◌then◌else◌}
 use Rattle.std.specs.Option.{option_map, option_and_then}
 use Rattle.std.specs.List.{slice_get}
-use Rattle.std.specs.declared.alloc.Global.{Global}
-use Rattle.std.specs.declared.collections.VecDeque.{VecDeque}
 use Rattle.value_core.specs.declared.value.Value.{Value}
 use Rattle.core_syntax.specs.declared.node_id.NodeId.{NodeId}
 use Rattle.serial_model.specs.declared.actor_state.ActorState.{ActorState}
@@ -17,8 +15,6 @@ use Rattle.std.proofs.lemmas.Option.{slice_get_cases}
 use Rattle.serial_machine.specs.declared.now.Now.{Now}
 use Rattle.serial_machine.specs.Now.{state_after, IsNow, Comes, IsTurn, BeginsTurn, turn_begun, Steps, IsStepped}
 use Rattle.serial_machine.specs.Units.{has_first, IsTaken, IsChanged, turning, AreUnits, idle_of}
-use Rattle.serial_machine.proofs.Kept.{view_found, view_none}
-use Rattle.serial_machine.proofs.Asked.{more_is}
 
 module _ (setup : Setup) (before : List ℕ) (actor sender : Name) where
   -- the first message is taken

@@ -1,5 +1,5 @@
 -- Which units are unfinished after a change.
-use Rattle.std.proofs.Common.{◌≡◌, ◌∙◌, Bool, true, false, refl, sym, ap, subst, Option, Some, None}
+use Rattle.std.proofs.Common.{◌≡◌, ◌∙◌, Bool, true, false, refl, sym, ap, subst, Some, None}
 use Rattle.std.specs.Prelude.{not, is_some}
 use Rattle.std.specs.BTreeMap.{BTreeMap, WritesThrough}
 use Rattle.std.specs.BTreeSet.{BTreeSet}
@@ -8,7 +8,7 @@ use Rattle.value_core.specs.declared.value.Value.{Value}
 use Rattle.serial_model.specs.Named.{Name, Named, named, with_named, same_name}
 use Rattle.serial_model.proofs.NamedLaws.{named-here, same_name-equal}
 use Rattle.serial_machine.specs.declared.unit.Unit.{Unit}
-use Rattle.serial_machine.specs.Map.{holds_at, AgreeBut, HasJust}
+use Rattle.serial_machine.specs.Map.{holds_at, HasJust}
 use Rattle.serial_machine.specs.Units.{is_unfinished, IsFinishedIn, SameUnfinished}
 use Rattle.serial_machine.proofs.Kept.{written_is_put}
 use Rattle.serial_machine.proofs.Marks.{agree_put, agree_same}
