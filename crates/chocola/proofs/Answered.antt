@@ -14,14 +14,14 @@ use Rattle.world_io.specs.Counts.{Rose}
 use Rattle.world_io.specs.Held.{told}
 use Rattle.world_io.specs.Taken.{TookPrefix, Said}
 use Rattle.chocola.specs.declared.outcome.Outcome.{Outcome}
-use Rattle.chocola.specs.Lines.{line_of, line_begun, ended_line}
+use Rattle.chocola.specs.Lines.{detail_line, line_of, line_begun, ended_line}
 use Rattle.chocola.specs.Program.{IsProgramOf}
 use Rattle.chocola.specs.Load.{IsLoaded, IsTraced, IsTraceDue}
 use Rattle.chocola.specs.Outcome.{IsEnded, IsStatusOfEnd}
 use Rattle.chocola.specs.ReplayAnswers.{setup_of, IsReplayed, IsReplay, Replays, ReplayOf, ReplayAnswers}
-use Rattle.chocola.specs.Seen.{Seen, IsCalm, IsGiven, IsUntouched}
+use Rattle.chocola.specs.Seen.{Seen, IsCalm, IsGiven, IsUntouched, NoWriteFailed}
 use Rattle.chocola.specs.SourceAnswers.{AreThere}
-use Rattle.chocola.proofs.Answering.{three_not_ended, four_not_ended}
+use Rattle.chocola.proofs.Answering.{three_not_ended, four_not_ended, must_tell, no_failure}
 use Rattle.chocola.proofs.Loading.{held_bytes, missing_held, missing_loaded, found_program, found_refused, found_out_of_scope}
 use Rattle.chocola.proofs.Stuck.{differs_never}
 
@@ -34,7 +34,7 @@ one_of_two file trace name h = on h.0 h.1 h.2
     on (suc zero) lt e = inr (sym e)
     on (suc (suc k)) lt e = absurd (omega (arith, lt))
 
-pub second : (file trace : List ℕ) (before : Seen) → AreThere (file ∷ trace ∷ []) before → told before.held trace ≢ Some None
+pub second : (file trace : List ℕ) (before : Seen) → AreThere (file ∷ trace ∷ []) before → told before.files.held trace ≢ Some None
 second file trace before there = there 1 [] (omega arith)
 
 -- the trace that is held is the one that was read
@@ -85,15 +85,18 @@ status_of_end : (outcome : Outcome) (end : End) → outcome.end ≡ Some end →
 status_of_end outcome end is h = rw is (subst (λ e. IfSome e (λ x. status x ≡ outcome.status)) is h)
 
 -- where the replay was made
-pub replay_loaded : (file trace : List ℕ) (before after : Seen) (outcome : Outcome) (program : Table) (t : Trace) → IsLoaded (told before.held file) program → IsTraced (told before.held trace) t
-    → ReplayOf program t before.out after.out before.out_faults after.out_faults outcome
-    → (outcome.status ≡ 7 → Rose before.out_faults after.out_faults ⊎ Rose before.err_faults after.err_faults)
+pub replay_loaded : (file trace : List ℕ) (before after : Seen) (outcome : Outcome) (program : Table) (t : Trace) → IsLoaded (told before.files.held file) program → IsTraced (told before.files.held trace) t
+    → after.files.read_faults ≡ before.files.read_faults
+    → ReplayOf program t before.out after.out outcome
+    → (outcome.status ≢ 7 → outcome.status ≢ 6 → (after.out.faults ≡ before.out.faults) × (after.err.faults ≡ before.err.faults))
+    → (outcome.status ≡ 7 → Rose before.out.faults after.out.faults ⊎ Rose before.err.faults after.err.faults)
     → IsUntouched before after
-    → Said before.err after.err before.err_faults after.err_faults (line_of [] outcome.status outcome.detail outcome.end)
-    → TookPrefix before.err after.err (line_begun [] outcome.status outcome.detail outcome.end)
-    → (IsEnded outcome.status → outcome.status ≢ 7 → after.err ≡ append_known before.err (ended_line outcome.end))
+    → Said before.err after.err (line_of [] outcome.status outcome.detail outcome.end)
+    → TookPrefix before.err.taken after.err.taken (line_begun [] outcome.status outcome.detail outcome.end)
+    → (IsEnded outcome.status → outcome.status ≢ 7 → after.err.taken ≡ append_known before.err.taken (ended_line outcome.end))
+    → (outcome.status ≡ 8 → after.err.taken ≡ append_known before.err.taken (detail_line outcome.detail))
     → ReplayAnswers file trace before after outcome
-replay_loaded file trace before after outcome program t loaded traced r fault files said at_most end_said = record {
+replay_loaded file trace before after outcome program t loaded traced reads r unfailed fault files said at_most end_said differs_said = record {
   statuses = elim r.statuses [ inl e ↦ inl e | inr m ↦ inr (inr m) ];
   replayed = λ e. is_replay;
   unless_memory = λ m. inr is_replay;
@@ -115,21 +118,33 @@ replay_loaded file trace before after outcome program t loaded traced r fault fi
   ];
   reads = record {
     missing = λ name among none. absurd (elim (one_of_two file trace name among) [
-      | inl e ↦ missing_loaded (told before.held file) program (subst (λ n. told before.held n ≡ Some None) e none) loaded
-      | inr e ↦ missing_held (told before.held trace) traced.bytes (subst (λ n. told before.held n ≡ Some None) e none) traced.read
+      | inl e ↦ missing_loaded (told before.files.held file) program (subst (λ n. told before.files.held n ≡ Some None) e none) loaded
+      | inr e ↦ missing_held (told before.files.held trace) traced.bytes (subst (λ n. told before.files.held n ≡ Some None) e none) traced.read
     ]);
-    must_refuse = λ bytes kind at given there refused calm. absurd (found_refused (told before.held file) 0 0 bytes given program kind at loaded refused);
-    must_refuse_scope = λ bytes kind at given there refused calm. absurd (found_out_of_scope (told before.held file) 0 0 bytes given program kind at loaded refused);
+    must_refuse = λ bytes kind at given there refused calm. absurd (found_refused file before.files after.files bytes given program kind at loaded refused);
+    must_refuse_scope = λ bytes kind at given there refused calm. absurd (found_out_of_scope file before.files after.files bytes given program kind at loaded refused);
+    failed_read = λ failed. absurd (failed reads);
+    failed_write = λ failed. elim r.statuses [
+      | inl e ↦ elim e [
+        | inl ended ↦ must_tell before after outcome.status (inl ended) none failed
+        | inr eight ↦ absurd (no_failure (none (λ seven. omega (arith, eight, seven)) (λ six. omega (arith, eight, six))) failed)
+      ]
+      | inr six ↦ inr (inl six)
+    ];
   };
-  must_refuse_trace = λ bytes text other kind line given_file source given_trace refusal calm. absurd (found_trace_refused (told before.held trace) text t kind line given_trace traced refusal);
+  must_refuse_trace = λ bytes text other kind line given_file source given_trace refusal calm. absurd (found_trace_refused (told before.files.held trace) text t kind line given_trace traced refusal);
   refused = λ four. absurd (not_four outcome.status r.statuses four);
   not_written = fault;
   files = files;
   idle = λ w. absurd (elim w [ inl three ↦ not_three outcome.status r.statuses three | inr four ↦ not_four outcome.status r.statuses four ]);
   no_detail = λ s. elim s [ inl three ↦ absurd (not_three outcome.status r.statuses three) | inr six ↦ r.no_detail six ];
   says = record { unread = []; not_read = λ three. absurd (not_three outcome.status r.statuses three); said = said; said_at_most = at_most; end_said = end_said };
+  differs_said = differs_said;
 }
   where
+    none : outcome.status ≢ 7 → outcome.status ≢ 6 → NoWriteFailed before after
+    none seven six = let same = unfailed seven six in record { out = same.0; err = same.1; files = files.faults }
+
     is_replay : IsReplay file trace before after outcome
     is_replay = record {
       bytes = loaded.bytes;
@@ -148,10 +163,10 @@ replay_loaded file trace before after outcome program t loaded traced r fault fi
 
     here : (bytes text : List ℕ) (other : Table) (stated : Trace) → IsGiven file bytes before → IsProgramOf bytes other → IsGiven trace text before → IsTextOfTrace stated text → Replays other stated → Replays program t
     here bytes text other stated given_file source given_trace is_text replays =
-        same_replays program other stated t (found_program (told before.held file) 0 0 bytes given_file program other loaded source)
-        (found_trace (told before.held trace) text t stated given_trace traced is_text) replays
+        same_replays program other stated t (found_program file before.files after.files bytes given_file program other loaded source)
+        (found_trace (told before.files.held trace) text t stated given_trace traced is_text) replays
 
     there : (bytes text : List ℕ) (other : Table) (stated : Trace) → IsGiven file bytes before → IsProgramOf bytes other → IsGiven trace text before → IsTextOfTrace stated text → Replays program t → Replays other stated
     there bytes text other stated given_file source given_trace is_text replays =
-        same_replays other program t stated (sym (found_program (told before.held file) 0 0 bytes given_file program other loaded source))
-        (turn stated t (found_trace (told before.held trace) text t stated given_trace traced is_text)) replays
+        same_replays other program t stated (sym (found_program file before.files after.files bytes given_file program other loaded source))
+        (turn stated t (found_trace (told before.files.held trace) text t stated given_trace traced is_text)) replays

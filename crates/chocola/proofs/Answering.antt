@@ -9,7 +9,7 @@ use Rattle.serial_model.specs.declared.end.End.{End}
 use Rattle.world_io.specs.Counts.{Rose}
 use Rattle.world_io.specs.Held.{told}
 use Rattle.world_io.specs.Taken.{TookPrefix, Said}
-use Rattle.world_io.specs.declared.files.FileItem.{FileItem}
+use Rattle.world_io.specs.Seen.{FilesSeen}
 use Rattle.chocola.specs.declared.outcome.Outcome.{Outcome}
 use Rattle.chocola.specs.declared.outcome.Detail.TheVariants.{Nothing}
 use Rattle.chocola.specs.declared.load.LoadNo.{LoadNo}
@@ -17,13 +17,13 @@ use Rattle.chocola.specs.declared.load.LoadNo.TheVariants.{NotRead, Refused, Out
 use Rattle.chocola.specs.Lines.{load_line, line_of, line_begun, ended_line}
 use Rattle.chocola.specs.Load.{IsLoaded, Loads}
 use Rattle.chocola.specs.Outcome.{IsEnded, IsWithoutRun, IsStatusOfEnd, IsIdle, Finished, load_status, load_detail}
-use Rattle.chocola.specs.Seen.{Seen, IsUnread}
+use Rattle.chocola.specs.Seen.{Seen, IsUnread, NoWriteFailed, WriteFailed}
 use Rattle.chocola.specs.SourceAnswers.{IsRefusedSource, ReadsSource, Says}
 use Rattle.chocola.specs.Traced.{KeepsTrace}
 use Rattle.chocola.specs.RunAnswers.{IsRun, RunAnswers}
-use Rattle.chocola.proofs.Loading.{missing_loaded, missing_error, found_refused, found_out_of_scope, error_refused, error_out_of_scope, error_checks}
+use Rattle.chocola.proofs.Loading.{missing_loaded, missing_error, failed_error, found_refused, found_out_of_scope, error_refused, error_out_of_scope, error_checks}
 use Rattle.chocola.proofs.Said.{line_of-load, line_begun-load}
-use Rattle.chocola.proofs.Tracing.{KeepsTrace-none, KeepsTrace-read}
+use Rattle.chocola.proofs.Tracing.{KeepsTrace-none}
 
 -- the only name
 only_one : (file name : List ℕ) → Contains (file ∷ []) name → name ≡ file
@@ -80,18 +80,43 @@ error_detail (OutOfScope kind at) apart = absurd (apart refl)
 error_detail Memory apart = refl
 
 -- what is refused where a file gives no program
-pub refuses : (found : Option (Option (List ℕ))) (before now : ℕ) (error : LoadNo) → Loads found before now (Err error) → load_status error ≡ 4 → IsRefusedSource found (load_detail error)
-refuses found before now NotRead h e = absurd (omega (arith, e))
-refuses found before now (Refused kind at) h e = inl (kind, at, h, refl)
-refuses found before now (OutOfScope kind at) h e = inr (kind, at, h, refl)
-refuses found before now Memory h e = absurd (omega (arith, e))
+pub refuses : (name : List ℕ) (before after : FilesSeen) (error : LoadNo) → Loads name before after (Err error) → load_status error ≡ 4
+    → IsRefusedSource (told before.held name) (load_detail error)
+refuses name before after NotRead h e = absurd (omega (arith, e))
+refuses name before after (Refused kind at) h e = inl (kind, at, h.0, refl)
+refuses name before after (OutOfScope kind at) h e = inr (kind, at, h.0, refl)
+refuses name before after Memory h e = absurd (omega (arith, e))
 
-pub unread_error : (file : List ℕ) (names : List (List ℕ)) (before after : Seen) (error : LoadNo) → Loads (told before.held file) before.read_faults after.read_faults (Err error) → load_status error ≡ 3
+-- the first name is one of the names
+pub first_of : (file : List ℕ) (names : List (List ℕ)) → Contains (file ∷ names) file
+first_of file names = (0, omega arith, refl)
+
+pub unread_error : (file : List ℕ) (names : List (List ℕ)) (before after : Seen) (error : LoadNo) → Loads file before.files after.files (Err error) → load_status error ≡ 3
     → IsUnread (file ∷ names) before after file
-unread_error file names before after NotRead h e = inl (refl, h)
+unread_error file names before after NotRead h e = elim h [
+  | inl failed ↦ inl (first_of file names, failed.0, failed.1)
+  | inr absent ↦ inr (absent.0, inl (refl, absent.1))
+]
 unread_error file names before after (Refused kind at) h e = absurd (omega (arith, e))
 unread_error file names before after (OutOfScope kind at) h e = absurd (omega (arith, e))
 unread_error file names before after Memory h e = absurd (omega (arith, e))
+
+-- no write failed, or one did
+pub no_failure : {before after : Seen} → NoWriteFailed before after → WriteFailed before after → ⊥
+no_failure none failed = elim failed [ inl out ↦ out none.out | inr rest ↦ elim rest [ inl err ↦ err none.err | inr files ↦ files none.files ] ]
+
+-- where a write failed, no end was written
+pub must_tell : (before after : Seen) (s : ℕ) → IsEnded s ⊎ (s ≡ 6) → (s ≢ 7 → s ≢ 6 → NoWriteFailed before after) → WriteFailed before after → IsWithoutRun s ⊎ ((s ≡ 6) ⊎ (s ≡ 7))
+must_tell before after s statuses none failed = elim statuses [
+  | inl e ↦ elim e [
+    | inl x ↦ absurd (no_failure (none (λ y. omega (arith, x, y)) (λ y. omega (arith, x, y))) failed)
+    | inr e ↦ elim e [
+      | inl x ↦ absurd (no_failure (none (λ y. omega (arith, x, y)) (λ y. omega (arith, x, y))) failed)
+      | inr e ↦ elim e [ inl x ↦ absurd (no_failure (none (λ y. omega (arith, x, y)) (λ y. omega (arith, x, y))) failed) | inr seven ↦ inr (inr seven) ]
+    ]
+  ]
+  | inr six ↦ inr (inl six)
+]
 
 -- a run that is written in full has the status of its end, or there was no memory
 pub is_done : (outcome : Outcome) → IsEnded outcome.status ⊎ (outcome.status ≡ 6)
@@ -103,22 +128,24 @@ is_done outcome h some ends = elim h [ inl e ↦ inl (both outcome.end (some e) 
     both (Some end) is e = e
 
 -- where a file gives no program
-module _ (file : List ℕ) (before after : Seen) (outcome : Outcome) (error : LoadNo) (loads : Loads (told before.held file) before.read_faults after.read_faults (Err error))
+module _ (file : List ℕ) (before after : Seen) (outcome : Outcome) (error : LoadNo) (loads : Loads file before.files after.files (Err error))
     (is_status : outcome.status ≡ load_status error) (is_detail : outcome.detail ≡ load_detail error) where
   pub reads_error : ReadsSource file (file ∷ []) before after outcome
   reads_error = record {
     missing = λ name among none. rw is_status
-        (missing_error (told before.held file) before.read_faults after.read_faults error (subst (λ n. told before.held n ≡ Some None) (only_one file name among) none) loads);
+        (missing_error file before.files after.files error (subst (λ n. told before.files.held n ≡ Some None) (only_one file name among) none) loads);
     must_refuse = λ bytes kind at given there refused calm. rw (is_status, is_detail)
-        (error_refused (told before.held file) before.read_faults after.read_faults bytes given error kind at loads refused calm);
+        (error_refused file before.files after.files bytes given error kind at loads refused calm);
     must_refuse_scope = λ bytes kind at given there refused calm. rw (is_status, is_detail)
-        (error_out_of_scope (told before.held file) before.read_faults after.read_faults bytes given error kind at loads refused calm);
+        (error_out_of_scope file before.files after.files bytes given error kind at loads refused calm);
+    failed_read = λ failed. rw is_status (failed_error file before.files after.files error failed loads);
+    failed_write = λ failed. rw is_status (elim (error_status error) [ inl w ↦ inl w | inr six ↦ inr (inl six) ]);
   }
 
-  pub refused_error : outcome.status ≡ 4 → IsRefusedSource (told before.held file) outcome.detail
-  refused_error four = rw is_detail (refuses (told before.held file) before.read_faults after.read_faults error loads (sym is_status ∙ four))
+  pub refused_error : outcome.status ≡ 4 → IsRefusedSource (told before.files.held file) outcome.detail
+  refused_error four = rw is_detail (refuses file before.files after.files error loads (sym is_status ∙ four))
 
-  pub says_error : (names : List (List ℕ)) → Said before.err after.err before.err_faults after.err_faults (load_line file error) → TookPrefix before.err after.err (load_line file error)
+  pub says_error : (names : List (List ℕ)) → Said before.err after.err (load_line file error) → TookPrefix before.err.taken after.err.taken (load_line file error)
       → Says (file ∷ names) before after outcome
   says_error names said at_most = record {
     unread = file;
@@ -129,7 +156,7 @@ module _ (file : List ℕ) (before after : Seen) (outcome : Outcome) (error : Lo
   }
 
   pub run_error : (limits : Budget) (trace : Option (List ℕ)) → IsIdle before after outcome
-      → Said before.err after.err before.err_faults after.err_faults (load_line file error) → TookPrefix before.err after.err (load_line file error)
+      → Said before.err after.err (load_line file error) → TookPrefix before.err.taken after.err.taken (load_line file error)
       → RunAnswers file limits trace before after outcome
   run_error limits trace idle said at_most = record {
     statuses = rw is_status (inr (error_status error));
@@ -137,7 +164,7 @@ module _ (file : List ℕ) (before after : Seen) (outcome : Outcome) (error : Lo
     ended = λ ended. absurd (error_not_ended error (subst IsEnded is_status ended));
     unless_memory = λ six. inl idle;
     complete = λ bytes program given source calm. inr (is_status
-        ∙ error_checks (told before.held file) before.read_faults after.read_faults bytes given error program loads source calm.reads);
+        ∙ error_checks file before.files after.files bytes given error program loads source calm.reads);
     keeps = KeepsTrace-none limits trace before after outcome idle.end idle.files;
     reads = reads_error;
     refused = refused_error;
@@ -148,29 +175,33 @@ module _ (file : List ℕ) (before after : Seen) (outcome : Outcome) (error : Lo
   }
 
 -- where it gives one
-module _ (file : List ℕ) (before after : Seen) (outcome : Outcome) (program : Table) (loaded : IsLoaded (told before.held file) program) where
+module _ (file : List ℕ) (before after : Seen) (outcome : Outcome) (program : Table) (loaded : IsLoaded (told before.files.held file) program)
+    (reads : after.files.read_faults ≡ before.files.read_faults) (statuses : IsEnded outcome.status ⊎ (outcome.status ≡ 6))
+    (unfailed : outcome.status ≢ 7 → outcome.status ≢ 6 → NoWriteFailed before after) where
   pub reads_loaded : ReadsSource file (file ∷ []) before after outcome
   reads_loaded = record {
-    missing = λ name among none. absurd (missing_loaded (told before.held file) program (subst (λ n. told before.held n ≡ Some None) (only_one file name among) none) loaded);
-    must_refuse = λ bytes kind at given there refused calm. absurd (found_refused (told before.held file) 0 0 bytes given program kind at loaded refused);
-    must_refuse_scope = λ bytes kind at given there refused calm. absurd (found_out_of_scope (told before.held file) 0 0 bytes given program kind at loaded refused);
+    missing = λ name among none. absurd (missing_loaded (told before.files.held file) program (subst (λ n. told before.files.held n ≡ Some None) (only_one file name among) none) loaded);
+    must_refuse = λ bytes kind at given there refused calm. absurd (found_refused file before.files after.files bytes given program kind at loaded refused);
+    must_refuse_scope = λ bytes kind at given there refused calm. absurd (found_out_of_scope file before.files after.files bytes given program kind at loaded refused);
+    failed_read = λ failed. absurd (failed reads);
+    failed_write = must_tell before after outcome.status statuses unfailed;
   }
 
-  pub run_loaded : (limits : Budget) (trace : Option (List ℕ)) (held : Option (List FileItem)) (reads writes : ℕ) → held ≡ before.held → writes ≡ before.write_faults
-      → IsEnded outcome.status ⊎ (outcome.status ≡ 6)
-      → Finished (record { program = program; limits = limits }) before.out after.out before.out_faults after.out_faults outcome
+  pub run_loaded : (limits : Budget) (trace : Option (List ℕ)) → Finished (record { program = program; limits = limits }) before.out after.out outcome
       → (IsEnded outcome.status → IsSome outcome.end)
-      → KeepsTrace limits trace (record before { held = held; read_faults = reads; write_faults = writes }) after outcome
-      → (outcome.status ≡ 7 → Rose before.out_faults after.out_faults ⊎ (Rose before.err_faults after.err_faults ⊎ Rose writes after.write_faults))
+      → KeepsTrace limits trace before after outcome
+      → (outcome.status ≡ 7 → Rose before.out.faults after.out.faults ⊎ (Rose before.err.faults after.err.faults ⊎ Rose before.files.write_faults after.files.write_faults))
       → outcome.detail ≡ Nothing
-      → Said before.err after.err before.err_faults after.err_faults (line_of [] outcome.status outcome.detail outcome.end)
-      → TookPrefix before.err after.err (line_begun [] outcome.status outcome.detail outcome.end)
-      → (IsEnded outcome.status → outcome.status ≢ 7 → after.err ≡ append_known before.err (ended_line outcome.end))
+      → Said before.err after.err (line_of [] outcome.status outcome.detail outcome.end)
+      → TookPrefix before.err.taken after.err.taken (line_begun [] outcome.status outcome.detail outcome.end)
+      → (IsEnded outcome.status → outcome.status ≢ 7 → after.err.taken ≡ append_known before.err.taken (ended_line outcome.end))
       → RunAnswers file limits trace before after outcome
-  run_loaded limits trace held reads writes same none statuses finished ended keeps fault detail said at_most end_said =
-      let run : IsRun file limits before after outcome = record { bytes = loaded.bytes; program = program; read = loaded.read; source = loaded.source; finished = finished } in
-      let rises : (outcome.status ≡ 7 → Rose before.out_faults after.out_faults ⊎ (Rose before.err_faults after.err_faults ⊎ Rose before.write_faults after.write_faults)) =
-      λ seven. subst (λ w. Rose before.out_faults after.out_faults ⊎ (Rose before.err_faults after.err_faults ⊎ Rose w after.write_faults)) none (fault seven) in
+  run_loaded limits trace finished ended keeps rises detail said at_most end_said =
+      let run : IsRun file limits before after outcome = record {
+        bytes = loaded.bytes;
+        read = loaded.read;
+        run = record { program = program; source = loaded.source; finished = finished };
+      } in
       record {
         statuses = elim statuses [ inl e ↦ inl e | inr m ↦ inr (inr m) ];
         run = λ e. run;
@@ -178,7 +209,7 @@ module _ (file : List ℕ) (before after : Seen) (outcome : Outcome) (program : 
         unless_memory = λ m. inr run;
         complete = λ bytes other given source calm. is_done outcome statuses ended
             (finished.status_is_the_ends (λ seven. elim (rises seven) [ inl o ↦ calm.out o | inr x ↦ elim x [ inl e ↦ calm.err e | inr w ↦ calm.writes w ] ]));
-        keeps = KeepsTrace-read limits trace before after held reads writes outcome same none keeps;
+        keeps = keeps;
         reads = reads_loaded;
         refused = λ four. absurd (not_four outcome.status statuses four);
         not_written = rises;

@@ -1,5 +1,5 @@
 -- From what was read and counted to what is owed to a check.
-use Rattle.std.proofs.Common.{◌≡◌, ℕ, List, [], refl, sym, ◌∙◌, subst, inl, inr}
+use Rattle.std.proofs.Common.{◌≡◌, ◌≢◌, ℕ, List, [], refl, sym, ◌∙◌, ap, subst, inl, inr}
 use Rattle.std.specs.Prelude.{◌⊎◌, Option, None, Err}
 use Rattle.std.specs.Io.KnownBytes.{append_known}
 use Rattle.core_syntax.specs.Table.{Table}
@@ -21,13 +21,13 @@ use Rattle.chocola.specs.Written.{IsWritten}
 use Rattle.chocola.proofs.Loading.{error_checks}
 use Rattle.chocola.proofs.Answering.{reads_error, reads_loaded, refused_error, says_error, error_not_ended, error_status, error_detail, not_three, not_four}
 
-pub check_error : (file : List ℕ) (before after : Seen) (outcome : Outcome) (error : LoadNo) → Loads (told before.held file) before.read_faults after.read_faults (Err error)
+pub check_error : (file : List ℕ) (before after : Seen) (outcome : Outcome) (error : LoadNo) → Loads file before.files after.files (Err error)
     → outcome.status ≡ load_status error → outcome.detail ≡ load_detail error → IsIdle before after outcome
-    → Said before.err after.err before.err_faults after.err_faults (load_line file error) → TookPrefix before.err after.err (load_line file error) → CheckAnswers file before after outcome
+    → Said before.err after.err (load_line file error) → TookPrefix before.err.taken after.err.taken (load_line file error) → CheckAnswers file before after outcome
 check_error file before after outcome error loads is_status is_detail idle said at_most = record {
   statuses = rw is_status (inr (error_status error));
   checked = λ ended. absurd (error_not_ended error (subst IsEnded is_status ended));
-  complete = λ bytes program given source calm. inr (is_status ∙ error_checks (told before.held file) before.read_faults after.read_faults bytes given error program loads source calm.reads);
+  complete = λ bytes program given source calm. inr (is_status ∙ error_checks file before.files after.files bytes given error program loads source calm.reads);
   reads = reads_error file before after outcome error loads is_status is_detail;
   refused = refused_error file before after outcome error loads is_status is_detail;
   not_written = λ seven. absurd (error_not_ended error (inr (inr (inr (sym is_status ∙ seven)))));
@@ -50,29 +50,32 @@ no_line s end h none = elim h [ inl z ↦ rw z refl | inr x ↦ rw x refl ]
 no_line_begun : (s : ℕ) (end : Option End) → (s ≡ 0) ⊎ (s ≡ 7) → end ≡ None → line_begun [] s Nothing end ≡ []
 no_line_begun s end h none = elim h [ inl z ↦ rw z refl | inr x ↦ rw (x, none) refl ]
 
-pub check_loaded : (file : List ℕ) (before after : Seen) (outcome : Outcome) (program : Table) → IsLoaded (told before.held file) program
-    → (outcome.status ≡ 0) ⊎ (outcome.status ≡ 7) → TookPrefix before.out after.out (check_line program)
-    → (IsWritten outcome.status before.out_faults after.out_faults → after.out ≡ append_known before.out (check_line program))
-    → (outcome.status ≡ 7 → Rose before.out_faults after.out_faults)
+pub check_loaded : (file : List ℕ) (before after : Seen) (outcome : Outcome) (program : Table) → IsLoaded (told before.files.held file) program
+    → (outcome.status ≡ 0) ⊎ (outcome.status ≡ 7) → TookPrefix before.out.taken after.out.taken (check_line program)
+    → (IsWritten outcome.status before.out after.out → after.out.taken ≡ append_known before.out.taken (check_line program))
+    → (outcome.status ≡ 7 → Rose before.out.faults after.out.faults) → (outcome.status ≢ 7 → after.out.faults ≡ before.out.faults)
     → outcome.history.items ≡ [] → outcome.end ≡ None → outcome.detail ≡ Nothing → IsUntouched before after → after.err ≡ before.err
-    → CheckAnswers file before after outcome
-check_loaded file before after outcome program loaded status prefix whole fault history none detail files silent = record {
-  statuses = inl (ended outcome.status status);
-  checked = λ e. record { bytes = loaded.bytes; program = program; read = loaded.read; source = loaded.source; done = status; prefix = prefix; all_when_written = whole };
-  complete = λ bytes other given source calm. elim status [ inl z ↦ inl z | inr seven ↦ absurd (calm.out (fault seven)) ];
-  reads = reads_loaded file before after outcome program loaded;
-  refused = λ four. absurd (not_four outcome.status (inl (ended outcome.status status)) four);
-  not_written = fault;
-  no_entries = history;
-  no_end = none;
-  files = files;
-  idle = λ e. absurd (e (ended outcome.status status));
-  detail = λ apart. detail;
-  says = record {
-    unread = [];
-    not_read = λ three. absurd (not_three outcome.status (inl (ended outcome.status status)) three);
-    said = rw (detail, no_line outcome.status outcome.end status none) (λ calm. silent ∙ sym (append_known-nil before.err));
-    said_at_most = rw (detail, no_line_begun outcome.status outcome.end status none) (TookPrefix-none before.err after.err [] silent);
-    end_said = λ e written. rw none (silent ∙ sym (append_known-nil before.err));
-  };
-}
+    → after.files.read_faults ≡ before.files.read_faults → CheckAnswers file before after outcome
+check_loaded file before after outcome program loaded status prefix whole fault unfailed history none detail files same reads =
+    let silent : after.err.taken ≡ before.err.taken = ap (λ sink. sink.taken) same in
+    record {
+      statuses = inl (ended outcome.status status);
+      checked = λ e. record { bytes = loaded.bytes; program = program; read = loaded.read; source = loaded.source; done = status; prefix = prefix; all_when_written = whole };
+      complete = λ bytes other given source calm. elim status [ inl z ↦ inl z | inr seven ↦ absurd (calm.out (fault seven)) ];
+      reads = reads_loaded file before after outcome program loaded reads (inl (ended outcome.status status))
+          (λ seven six. record { out = unfailed seven; err = ap (λ sink. sink.faults) same; files = files.faults });
+      refused = λ four. absurd (not_four outcome.status (inl (ended outcome.status status)) four);
+      not_written = fault;
+      no_entries = history;
+      no_end = none;
+      files = files;
+      idle = λ e. absurd (e (ended outcome.status status));
+      detail = λ apart. detail;
+      says = record {
+        unread = [];
+        not_read = λ three. absurd (not_three outcome.status (inl (ended outcome.status status)) three);
+        said = rw (detail, no_line outcome.status outcome.end status none) (λ calm. silent ∙ sym (append_known-nil before.err.taken));
+        said_at_most = rw (detail, no_line_begun outcome.status outcome.end status none) (TookPrefix-none before.err.taken after.err.taken [] silent);
+        end_said = λ e written. rw none (silent ∙ sym (append_known-nil before.err.taken));
+      };
+    }

@@ -1,7 +1,8 @@
 -- From a run to its outcome.
 use Rattle.std.proofs.Common.{◌≡◌, ◌≢◌, ℕ, zero, suc, inl, inr, ◌∷◌, List, [], take, refl, sym, ◌∙◌, ap, subst, arith}
-use Rattle.std.specs.Prelude.{Bool, true, false, ◌==◌, if◌then◌else◌, Option, None, Some, IsSome, IfSome, unwrap_or, Result, Ok, Err, IsErr, OnOk}
+use Rattle.std.specs.Prelude.{Bool, true, false, ◌==◌, if◌then◌else◌, Option, None, Some, IsSome, IfSome, unwrap_or, Result, Ok, Err, IsOk, IsErr, OnOk}
 use Rattle.std.specs.Io.KnownBytes.{append_known}
+use Rattle.world_io.specs.Seen.{SinkSeen}
 use Rattle.world_io.specs.Taken.{CountsWrite, TookPrefix}
 use Rattle.world_io.specs.declared.sink.Failed.{Failed}
 use Rattle.world_io.proofs.TakenLemmas.{TookPrefix-none, append_known-nil}
@@ -37,13 +38,13 @@ no_prefix old new [] e took = took.2 ∙ ap (append_known old) (take_nil took.0)
 no_prefix old new (b ∷ text) e took = absurd (cc)
 
 -- a run, as far as it came, with what was written of its bytes
-pub Finished-of : (p : Progress) (outcome : Outcome) (output : List ℕ) (old new : Option (List ℕ)) (before now : ℕ)
+pub Finished-of : (p : Progress) (outcome : Outcome) (output : List ℕ) (old new : SinkSeen)
     → outcome.history.items ≡ p.history → IsSome (state_of p) → IfSome (state_of p) (λ s. output ≡ s.bytes)
     → IfSome (state_of p) (λ s. IfSome outcome.end (IsOver p.setup s))
-    → TookPrefix old new output → (IsWritten outcome.status before now → new ≡ append_known old output)
+    → TookPrefix old.taken new.taken output → (IsWritten outcome.status old new → new.taken ≡ append_known old.taken output)
     → (outcome.status ≢ 7 → IfSome outcome.end (λ e. status e ≡ outcome.status))
-    → Finished p.setup old new before now outcome
-Finished-of p outcome output old new before now entries is bytes over took whole ends =
+    → Finished p.setup old new outcome
+Finished-of p outcome output old new entries is bytes over took whole ends =
     let there = the_state (state_of p) is in
     let same : output ≡ there.0.bytes = at_state (state_of p) there.0 (λ s. output ≡ s.bytes) there.1 bytes in
     let replays : replay p.setup outcome.history.items ≡ Some there.0 = ap (replay p.setup) entries ∙ there.1 in
@@ -51,17 +52,17 @@ Finished-of p outcome output old new before now entries is bytes over took whole
       state = there.0;
       history_replays = replays;
       end_is_the_replays = at_state (state_of p) there.0 (λ s. IfSome outcome.end (IsOver p.setup s)) there.1 over;
-      bytes_are_the_replays = subst (TookPrefix old new) same took;
-      none_without_entries = λ e. no_prefix old new output (same ∙ no_bytes p.setup there.0 (sym (ap (replay p.setup) e) ∙ replays)) took;
-      all_when_written = λ w. whole w ∙ ap (append_known old) same;
+      bytes_are_the_replays = subst (TookPrefix old.taken new.taken) same took;
+      none_without_entries = λ e. no_prefix old.taken new.taken output (same ∙ no_bytes p.setup there.0 (sym (ap (replay p.setup) e) ∙ replays)) took;
+      all_when_written = λ w. whole w ∙ ap (append_known old.taken) same;
       status_is_the_ends = ends;
       units_are_made = λ e. all_units_made p.setup outcome.history.items there.0 replays
           (subst (λ end. IfSome end (IsOver p.setup there.0)) e (at_state (state_of p) there.0 (λ s. IfSome outcome.end (IsOver p.setup s)) there.1 over));
     }
 
 -- nothing is written for want of memory
-pub not_written_six : (s before now : ℕ) → s ≡ 6 → IsWritten s before now → ⊥
-not_written_six s before now six w = elim w [
+pub not_written_six : (s : ℕ) (old new : SinkSeen) → s ≡ 6 → IsWritten s old new → ⊥
+not_written_six s old new six w = elim w [
   | inl e ↦ absurd (omega (arith, e, six))
   | inr w ↦ elim w [
     | inl e ↦ absurd (omega (arith, e, six))
@@ -79,12 +80,12 @@ no_status None s e = tt
 no_status (Some end) s e = absurd (cc)
 
 -- a run that stopped for want of memory
-pub Finished-stopped : (p : Progress) (outcome : Outcome) (old new : Option (List ℕ)) (before now : ℕ) → outcome.history.items ≡ p.history → IsSome (state_of p)
-    → outcome.status ≡ 6 → outcome.end ≡ None → new ≡ old → Finished p.setup old new before now outcome
-Finished-stopped p outcome old new before now entries is six none same =
+pub Finished-stopped : (p : Progress) (outcome : Outcome) (old new : SinkSeen) → outcome.history.items ≡ p.history → IsSome (state_of p)
+    → outcome.status ≡ 6 → outcome.end ≡ None → new.taken ≡ old.taken → Finished p.setup old new outcome
+Finished-stopped p outcome old new entries is six none same =
     let there = the_state (state_of p) is in
-    Finished-of p outcome there.0.bytes old new before now entries is (bytes (state_of p) there.0 there.1) (no_end (state_of p) p.setup outcome.end none)
-    (TookPrefix-none old new there.0.bytes same) (λ w. absurd (not_written_six outcome.status before now six w)) (λ e. no_status outcome.end outcome.status none)
+    Finished-of p outcome there.0.bytes old new entries is (bytes (state_of p) there.0 there.1) (no_end (state_of p) p.setup outcome.end none)
+    (TookPrefix-none old.taken new.taken there.0.bytes same) (λ w. absurd (not_written_six outcome.status old new six w)) (λ e. no_status outcome.end outcome.status none)
   where
     bytes : (o : Option State) (s : State) → o ≡ Some s → IfSome o (λ t. s.bytes ≡ t.bytes)
     bytes None s e = tt
@@ -95,10 +96,10 @@ unfolding_opening : (setup : Setup) → IsSome (replay setup [])
 unfolding replay_from
 unfolding_opening setup = refl
 
-pub Finished-unbegun : (setup : Setup) (outcome : Outcome) (old new : Option (List ℕ)) (before now : ℕ) → outcome.history.items ≡ []
-    → outcome.status ≡ 6 → outcome.end ≡ None → new ≡ old → Finished setup old new before now outcome
-Finished-unbegun setup outcome old new before now entries six none same =
-    Finished-stopped (record { setup = setup; history = [] }) outcome old new before now entries (unfolding_opening setup) six none same
+pub Finished-unbegun : (setup : Setup) (outcome : Outcome) (old new : SinkSeen) → outcome.history.items ≡ []
+    → outcome.status ≡ 6 → outcome.end ≡ None → new.taken ≡ old.taken → Finished setup old new outcome
+Finished-unbegun setup outcome old new entries six none same =
+    Finished-stopped (record { setup = setup; history = [] }) outcome old new entries (unfolding_opening setup) six none same
 
 of_unless : (b : Bool) (end : End) (P : End → Type 0) → P end → IfSome (if b then None else Some end) P
 of_unless true end P h = tt
@@ -121,9 +122,10 @@ status_unless s t end found e same ends not_seven = rw (e, same) (on (s == 6) re
     on false is = ends (λ seven. not_seven (same ∙ seven)) (λ six. absurd (let x : false ≡ true = is ∙ ap (λ n. n == 6) six in cc))
 
 -- the bytes of a run that are written in full were taken whole
-pub wrote_whole : (written : Result Unit Failed) (s before now : ℕ) (P : Type 0) → CountsWrite written before now → (IsErr written → s ≡ 7) → OnOk written P → IsWritten s before now → P
-wrote_whole (Ok x) s before now P counts fails whole w = whole
-wrote_whole (Err failed) s before now P counts fails whole w =
+pub wrote_whole : (written : Result Unit Failed) (s : ℕ) (old new : SinkSeen) (P : Type 0) → CountsWrite written old.faults new.faults → (IsErr written → s ≡ 7) → OnOk written P
+    → IsWritten s old new → P
+wrote_whole (Ok x) s old new P counts fails whole w = whole
+wrote_whole (Err failed) s old new P counts fails whole w =
     let seven : s ≡ 7 = fails refl in
     absurd (elim w [
       | inl e ↦ omega (arith, e, seven)
@@ -132,3 +134,8 @@ wrote_whole (Err failed) s before now P counts fails whole w =
         | inr w ↦ elim w [ inl e ↦ omega (arith, e, seven) | inr w ↦ elim w [ inl e ↦ omega (arith, e, seven) | inr p ↦ p.1 counts ] ]
       ]
     ])
+
+-- bytes that were written counted nothing
+pub none_counted : (written : Result Unit Failed) (before now : ℕ) → CountsWrite written before now → IsOk written → now ≡ before
+none_counted (Ok x) before now counts is = counts
+none_counted (Err failed) before now counts is = absurd (cc)

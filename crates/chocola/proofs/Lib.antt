@@ -10,3 +10,4 @@ pub mod Stuck
 pub mod Tracing
 pub mod UnitsMade
 pub mod Unreplayed
+pub mod WithoutMemory

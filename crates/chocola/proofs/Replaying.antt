@@ -8,6 +8,7 @@ use Rattle.serial_model.specs.declared.end.End.{End}
 use Rattle.serial_model.specs.declared.entry.Entry.{Entry}
 use Rattle.serial_model.specs.declared.trace.Trace.{Trace}
 use Rattle.serial_machine.specs.Progress.{Progress, state_of}
+use Rattle.world_io.specs.Seen.{SinkSeen}
 use Rattle.chocola.specs.declared.outcome.Outcome.{Outcome}
 use Rattle.chocola.specs.declared.outcome.Detail.TheVariants as detail
 use Rattle.chocola.specs.declared.replay.Replayed.TheVariants.{Agrees, Differs}
@@ -26,13 +27,13 @@ not_eight s h e = apart_from s 8 h e (λ x. omega (arith, x)) (λ x. omega (arit
 ended_of : (s : ℕ) → (s ≡ 0) ⊎ ((s ≡ 1) ⊎ (s ≡ 5)) → IsEnded s
 ended_of s h = elim h [ inl a ↦ inl a | inr h ↦ elim h [ inl b ↦ inr (inl b) | inr c ↦ inr (inr (inl c)) ] ]
 
-module _ (program : Table) (t : Trace) (p : Progress) (outcome : Outcome) (old new : Option (List ℕ)) (before now : ℕ) (same : p.setup ≡ setup_of program t)
-    (finished : Finished p.setup old new before now outcome) (entries : outcome.history.items ≡ p.history) where
-  is_finished : Finished (setup_of program t) old new before now outcome
-  is_finished = subst (λ setup. Finished setup old new before now outcome) same finished
+module _ (program : Table) (t : Trace) (p : Progress) (outcome : Outcome) (old new : SinkSeen) (same : p.setup ≡ setup_of program t)
+    (finished : Finished p.setup old new outcome) (entries : outcome.history.items ≡ p.history) where
+  is_finished : Finished (setup_of program t) old new outcome
+  is_finished = subst (λ setup. Finished setup old new outcome) same finished
 
   pub ReplayOf-agrees : IsSome (state_of p) → ReplaysTo p.setup t p.history Agrees → IsEnded outcome.status ⊎ (outcome.status ≡ 6) → (IsEnded outcome.status → outcome.end ≡ Some t.end)
-      → outcome.detail ≡ detail.Nothing → ReplayOf program t old new before now outcome
+      → outcome.detail ≡ detail.Nothing → ReplayOf program t old new outcome
   ReplayOf-agrees is agrees statuses end detail =
       let there = the_state (state_of p) is in
       let replays : Replays program t = record {
@@ -54,7 +55,7 @@ module _ (program : Table) (t : Trace) (p : Progress) (outcome : Outcome) (old n
 
   pub ReplayOf-differs : (found : Option End) → IsSome (state_of p) → p.history ≡ take (length p.history) t.history.items → ReplaysTo p.setup t p.history (Differs found)
       → (outcome.status ≡ 7) ⊎ (outcome.status ≡ 8) → outcome.end ≡ None → outcome.detail ≡ detail.Differs (3 + length p.history) t.end found
-      → ReplayOf program t old new before now outcome
+      → ReplayOf program t old new outcome
   ReplayOf-differs found is first differs statuses none is_detail =
       let there = the_state (state_of p) is in
       let here = at_state (state_of p) there.0 (λ s. IsRefusedNext p.setup s t (slice_get t.history.items (length p.history)) × IsFound p.setup s found) there.1 differs in
@@ -84,7 +85,7 @@ module _ (program : Table) (t : Trace) (p : Progress) (outcome : Outcome) (old n
         | inr x ↦ elim e [ inl y ↦ omega (arith, x, y) | inr e ↦ elim e [ inl y ↦ omega (arith, x, y) | inr y ↦ omega (arith, x, y) ] ]
       ]
 
-  pub ReplayOf-stopped : p.history ≡ take (length p.history) t.history.items → outcome.status ≡ 6 → outcome.detail ≡ detail.Nothing → ReplayOf program t old new before now outcome
+  pub ReplayOf-stopped : p.history ≡ take (length p.history) t.history.items → outcome.status ≡ 6 → outcome.detail ≡ detail.Nothing → ReplayOf program t old new outcome
   ReplayOf-stopped first six detail = record {
     statuses = inr six;
     first_entries = entries ∙ first ∙ ap (λ h. take (length h) t.history.items) (sym entries);

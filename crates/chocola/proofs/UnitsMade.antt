@@ -4,9 +4,12 @@ use Rattle.std.specs.Prelude.{Bool, true, false, ◌==◌, if◌then◌else◌, 
 use Rattle.std.specs.Option.{option_and_then, option_map}
 use Rattle.std.proofs.lemmas.Option.{none-some, same_Some}
 use Rattle.std.proofs.lemmas.Grind.{common_steps}
-use Rattle.value_core.specs.Futures.{holds_future}
 use Rattle.value_core.specs.Place.{Spot}
 use Rattle.value_core.specs.declared.value.Value.{Value}
+use Rattle.value_core.specs.declared.value.Value.TheVariants as value
+use Rattle.serial_model.specs.declared.answer.Answer.TheVariants as answer
+use Rattle.serial_model.specs.Ahead.{of_turn, self_of}
+use Rattle.serial_model.specs.Log.{Log}
 use Rattle.serial_model.specs.declared.actor_state.ActorState.{ActorState}
 use Rattle.serial_model.specs.declared.effect.Effect.{Effect}
 use Rattle.serial_model.specs.declared.effect.What.{What}
@@ -19,14 +22,14 @@ use Rattle.serial_model.specs.declared.halt.Halt.{Halt}
 use Rattle.serial_model.specs.declared.halt.Halt.TheVariants as halt
 use Rattle.serial_model.specs.declared.request.Request.{Request}
 use Rattle.serial_model.specs.declared.request.Request.TheVariants as request
-use Rattle.serial_model.specs.Named.{Name, named, with_named, over, made_by}
+use Rattle.value_core.specs.Named.{Name, named, with_named, over, made_by}
 use Rattle.serial_model.specs.State.{Setup, UnitState, State, opening}
 use Rattle.value_core.specs.declared.code.Code.TheVariants as code
 use Rattle.serial_model.specs.declared.end.End.TheVariants as end
-use Rattle.serial_model.specs.Step.{step, unless_ended, run_step, unit_step, if_unfinished, goes_on, next_of, does, gets_found, after_transaction, around, next_made, take_effects, takes_effect, finishes, released, take_step, begins_turn, queue_of, turn_unit, value_of, fails, commits, in_turn, with_unit, with_queue, if_allowed}
+use Rattle.serial_model.specs.Step.{step, unless_ended, run_step, unit_step, if_unfinished, goes_on, next_of, does, gets_if_there, after_transaction, around, next_made, take_effects, takes_effect, finishes, released, take_step, begins_turn, queue_of, turn_unit, value_of, becoming, fails, gives, commits, with_unit, with_queue, if_allowed}
 use Rattle.serial_model.specs.Replay.{replay, replay_from, IsOver}
 use Rattle.serial_model.specs.Task as task
-use Rattle.serial_model.specs.Task.{Result, transaction}
+use Rattle.serial_model.specs.Task.{transaction}
 
 -- where the end says so, all units are made
 abbrev pub AreMade : Setup → State → Type 0
@@ -59,23 +62,23 @@ module _ (setup : Setup) (s : State) (none : s.end ≡ None) where
   allowed made units true is t quiet same at e = sym at ∙ (grind (arith, common_steps)) ∙ same
   allowed made units false is t quiet same at e = not_set setup t.made t.end quiet e
 
-  found : (name : Name) (unit : UnitState) (v : Option Value) → Next setup (gets_found s name unit v)
+  found : (name : Name) (unit : UnitState) (v : Option Value) → Next setup (gets_if_there s name unit v)
   found name unit None = tt
   found name unit (Some v) = not_set setup s.made s.end none
 
-  ends : (name : Name) (unit : UnitState) (at : Spot) (result : Result) (outcome : task.Outcome) → Next setup (after_transaction s name unit at result outcome)
-  ends name unit at result (task.Value v) = on (holds_future v)
-    where
-      on : (b : Bool) → AreMade setup (if b then fails s name code.FutureEscapes at else commits s name unit result.log v)
-      on true = other setup s.made (end.Fault code.FutureEscapes at name) (λ e. cc)
-      on false = not_set setup _ _ (effects_end name result.log.effects (record s { refs = over result.log.writes s.refs }) unit ∙ none)
-  ends name unit at result (task.Fault failed place) = other setup s.made (end.Fault failed place name) (λ e. cc)
-  ends name unit at result task.Spent = other setup s.made (end.Spent name) (λ e. cc)
-  ends name unit at result task.Blocked = tt
+  ends : (name : Name) (unit : UnitState) (log : Log) (outcome : task.Outcome) → Next setup (after_transaction s name unit log outcome)
+  ends name unit log (task.Value v) = not_set setup _ _ (effects_end name log.effects (record s { refs = over log.writes s.refs }) unit ∙ none)
+  ends name unit log (task.Fault failed place) = other setup s.made (end.Fault failed place name) (λ e. cc)
+  ends name unit log task.Spent = other setup s.made (end.Spent name) (λ e. cc)
+  ends name unit log task.Blocked = tt
 
-  turned : (name : Name) (at : Spot) (actor : Option Name) (act : Name → State) → ((actor : Name) → (act actor).end ≡ None) → Next setup (Some (in_turn actor (fails s name code.NoTurn at) act))
-  turned name at None act quiet = other setup s.made (end.Fault code.NoTurn at name) (λ e. cc)
-  turned name at (Some actor) act quiet = not_set setup (act actor).made (act actor).end (quiet actor)
+  turned : (name : Name) (unit : UnitState) (at : Spot) (actor : Option Name) → AreMade setup (gives s name unit at (of_turn actor (answer.Value value.Nil)))
+  turned name unit at None = other setup s.made (end.Fault code.NoTurn at name) (λ e. cc)
+  turned name unit at (Some actor) = not_set setup s.made s.end none
+
+  selved : (name : Name) (unit : UnitState) (at : Spot) (actor : Option Name) → AreMade setup (gives s name unit at (self_of actor))
+  selved name unit at None = other setup s.made (end.Fault code.NoTurn at name) (λ e. cc)
+  selved name unit at (Some actor) = not_set setup s.made s.end none
 
   asked : (name : Name) (unit : UnitState) (at : Spot) (r : Request) → Next setup (does setup s name unit at r)
   asked name unit at (request.Print text) = not_set setup s.made s.end none
@@ -85,11 +88,11 @@ module _ (setup : Setup) (s : State) (none : s.end ≡ None) where
   asked name unit at (request.Fork body values) = allowed s.made setup.limits.units (s.made == setup.limits.units) refl _ none refl refl
   asked name unit at (request.Join future) = found name unit (value_of s future)
   asked name unit at (request.Dosync body values) =
-      ends name unit at (transaction (around setup s unit) (next_made name unit) body values) (transaction (around setup s unit) (next_made name unit) body values).outcome
+      let result = transaction (around setup s unit) (next_made name unit) at body values in ends name unit result.log result.outcome
   asked name unit at (request.Spawn behaviour state) = not_set setup s.made s.end none
   asked name unit at (request.Send actor message) = not_set setup s.made s.end none
-  asked name unit at (request.Become behaviour state) = turned name at unit.actor _ (λ actor. none)
-  asked name unit at request.SelfActor = turned name at unit.actor _ (λ actor. none)
+  asked name unit at (request.Become behaviour state) = turned name (becoming unit behaviour state) at unit.actor
+  asked name unit at request.SelfActor = selved name unit at unit.actor
 
   finished : (t : State) → t.end ≡ None → (actor : Option Name) (unit : UnitState) → (released actor t unit.becomes).end ≡ None
   finished t quiet None unit = quiet

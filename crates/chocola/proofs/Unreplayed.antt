@@ -11,8 +11,8 @@ use Rattle.serial_model.specs.declared.end.End.{End}
 use Rattle.serial_model.specs.declared.trace.Trace.{Trace}
 use Rattle.serial_model.specs.declared.trace.LineKind.{LineKind}
 use Rattle.trace_text.proofs.Unique.{not_refused, one_refusal}
-use Rattle.world_io.specs.Counts.{Rose}
 use Rattle.world_io.specs.Held.{told}
+use Rattle.world_io.specs.Seen.{FilesSeen}
 use Rattle.world_io.specs.Taken.{TookPrefix, Said}
 use Rattle.chocola.specs.declared.outcome.Outcome.{Outcome}
 use Rattle.chocola.specs.declared.outcome.Detail.TheVariants.{Nothing}
@@ -20,24 +20,25 @@ use Rattle.chocola.specs.declared.load.LoadNo.TheVariants.{NotRead, Refused, Out
 use Rattle.chocola.specs.declared.load.LoadNo.{LoadNo}
 use Rattle.chocola.specs.declared.load_replay.GivenNo.{GivenNo}
 use Rattle.chocola.specs.declared.load_replay.GivenNo.TheVariants as given
+use Rattle.chocola.specs.Fetch.{IsNotRead}
 use Rattle.chocola.specs.Lines.{given_line, line_of, line_begun}
 use Rattle.chocola.specs.Program.{IsProgramOf}
 use Rattle.chocola.specs.Load.{IsOutOfScope, IsTraceDue, Loads, LoadsBoth}
 use Rattle.chocola.specs.Outcome.{IsEnded, IsWithoutRun, IsIdle, given_status, given_detail, load_status, refused_as, out_of_scope, refused_trace}
 use Rattle.chocola.specs.ReplayAnswers.{IsReplayed, ReplayAnswers}
-use Rattle.chocola.specs.Seen.{Seen, IsGiven, IsUnread, ReadsWell}
+use Rattle.chocola.specs.Seen.{Seen, IsGiven, IsUnread, ReadFailed, ReadsWell}
 use Rattle.chocola.specs.SourceAnswers.{IsRefusedSource, AreThere}
 use Rattle.chocola.proofs.Answering.{three_not_ended, four_not_ended, refuses, error_detail, error_not_ended, error_status, unread_error}
 use Rattle.chocola.proofs.Answered.{one_of_two, second, due_trace}
-use Rattle.chocola.proofs.Loading.{missing_loaded, missing_error, found_refused, found_out_of_scope, error_refused, error_out_of_scope, error_checks}
+use Rattle.chocola.proofs.Loading.{missing_loaded, missing_error, failed_error, found_refused, found_out_of_scope, error_refused, error_out_of_scope, error_checks}
 use Rattle.chocola.proofs.Said.{line_of-load, line_begun-load}
 
 -- the cause on the side of the program
-given_loads : (file trace : Option (Option (List ℕ))) (before now : ℕ) (error : LoadNo) → LoadsBoth file trace before now (Err (given.Source error)) → Loads file before now (Err error)
-given_loads file trace before now NotRead h = h
-given_loads file trace before now (Refused kind at) h = h.1
-given_loads file trace before now (OutOfScope kind at) h = h.1
-given_loads file trace before now Memory h = tt
+given_loads : (file trace : List ℕ) (before after : FilesSeen) (error : LoadNo) → LoadsBoth file trace before after (Err (given.Source error)) → Loads file before after (Err error)
+given_loads file trace before after NotRead h = h
+given_loads file trace before after (Refused kind at) h = h.1
+given_loads file trace before after (OutOfScope kind at) h = h.1
+given_loads file trace before after Memory h = tt
 
 given_not_replayed : (error : GivenNo) → IsReplayed (given_status error) → ⊥
 given_not_replayed (given.Source error) h = elim h [ inl e ↦ error_not_ended error e | inr e ↦ not_eight error e ]
@@ -67,10 +68,13 @@ module _ (file trace : List ℕ) (before after : Seen) where
   unread_of given.TraceNotRead = trace
   unread_of (given.TraceRefused kind line) = file
 
-  given_unread : (error : GivenNo) → LoadsBoth (told before.held file) (told before.held trace) before.read_faults after.read_faults (Err error) → given_status error ≡ 3
+  given_unread : (error : GivenNo) → LoadsBoth file trace before.files after.files (Err error) → given_status error ≡ 3
       → IsUnread (file ∷ trace ∷ []) before after (unread_of error)
-  given_unread (given.Source error) h three = unread_error file (trace ∷ []) before after error (given_loads (told before.held file) (told before.held trace) before.read_faults after.read_faults error h) three
-  given_unread given.TraceNotRead h three = inr (h.0, inl (refl, h.1))
+  given_unread (given.Source error) h three = unread_error file (trace ∷ []) before after error (given_loads file trace before.files after.files error h) three
+  given_unread given.TraceNotRead h three = elim h.1 [
+    | inl failed ↦ inl ((1, omega arith, refl), failed.0, failed.1)
+    | inr absent ↦ inr (absent.0, inr (h.0, inl (refl, absent.1)))
+  ]
   given_unread (given.TraceRefused kind line) h three = absurd (omega (arith, three))
 
   given_line_of : (error : GivenNo) (end : Option End) → line_of (unread_of error) (given_status error) (given_detail error) end ≡ given_line file trace error
@@ -83,22 +87,22 @@ module _ (file trace : List ℕ) (before after : Seen) where
   given_line_begun given.TraceNotRead end = refl
   given_line_begun (given.TraceRefused kind line) end = refl
 
-  given_refused : (error : GivenNo) → LoadsBoth (told before.held file) (told before.held trace) before.read_faults after.read_faults (Err error) → given_status error ≡ 4
-      → IsRefusedSource (told before.held file) (given_detail error)
-      ⊎ ((kind : LineKind) × (line : ℕ) × IsTraceDue (told before.held trace) kind line × (given_detail error ≡ refused_trace kind line))
+  given_refused : (error : GivenNo) → LoadsBoth file trace before.files after.files (Err error) → given_status error ≡ 4
+      → IsRefusedSource (told before.files.held file) (given_detail error)
+      ⊎ ((kind : LineKind) × (line : ℕ) × IsTraceDue (told before.files.held trace) kind line × (given_detail error ≡ refused_trace kind line))
   given_refused (given.Source error) h four =
-      inl (refuses (told before.held file) before.read_faults after.read_faults error (given_loads (told before.held file) (told before.held trace) before.read_faults after.read_faults error h) four)
+      inl (refuses file before.files after.files error (given_loads file trace before.files after.files error h) four)
   given_refused given.TraceNotRead h four = absurd (omega (arith, four))
   given_refused (given.TraceRefused kind line) h four = inr (kind, line, h.1, refl)
 
-  missing_file : (error : GivenNo) → LoadsBoth (told before.held file) (told before.held trace) before.read_faults after.read_faults (Err error) → told before.held file ≡ Some None
+  missing_file : (error : GivenNo) → LoadsBoth file trace before.files after.files (Err error) → told before.files.held file ≡ Some None
       → (given_status error ≡ 3) ⊎ (given_status error ≡ 6)
   missing_file (given.Source error) h none =
-      missing_error (told before.held file) before.read_faults after.read_faults error none (given_loads (told before.held file) (told before.held trace) before.read_faults after.read_faults error h)
+      missing_error file before.files after.files error none (given_loads file trace before.files after.files error h)
   missing_file given.TraceNotRead h none = absurd (h.0 none)
-  missing_file (given.TraceRefused kind line) h none = absurd (missing_loaded (told before.held file) h.0.0 none h.0.1)
+  missing_file (given.TraceRefused kind line) h none = absurd (missing_loaded (told before.files.held file) h.0.0 none h.0.1)
 
-  missing_trace : (error : GivenNo) → LoadsBoth (told before.held file) (told before.held trace) before.read_faults after.read_faults (Err error) → told before.held trace ≡ Some None
+  missing_trace : (error : GivenNo) → LoadsBoth file trace before.files after.files (Err error) → told before.files.held trace ≡ Some None
       → (given_status error ≡ 3) ⊎ (given_status error ≡ 6)
   missing_trace (given.Source NotRead) h none = inl refl
   missing_trace (given.Source (Refused kind at)) h none = absurd (h.0 none)
@@ -107,54 +111,59 @@ module _ (file trace : List ℕ) (before after : Seen) where
   missing_trace given.TraceNotRead h none = inl refl
   missing_trace (given.TraceRefused kind line) h none = let due : IsTraceDue (Some None) kind line = subst (λ x. IsTraceDue x kind line) none h.1 in absurd due
 
-  not_read_trace : (P : Type 0) → (Rose before.read_faults after.read_faults ⊎ (told before.held trace ≡ Some None)) → ReadsWell before after → told before.held trace ≢ Some None → P
-  not_read_trace P h calm there = absurd (elim h [ inl rose ↦ calm rose | inr none ↦ there none ])
+  not_read_trace : (P : Type 0) → IsNotRead trace before.files after.files → ReadsWell before after → told before.files.held trace ≢ Some None → P
+  not_read_trace P h calm there = absurd (elim h [ inl failed ↦ calm failed.0 | inr absent ↦ there absent.1 ])
 
-  given_must_refuse : (error : GivenNo) → LoadsBoth (told before.held file) (told before.held trace) before.read_faults after.read_faults (Err error) → (bytes : List ℕ) (kind : ReadKind) (at : Spot)
+  given_failed : (error : GivenNo) → LoadsBoth file trace before.files after.files (Err error) → ReadFailed before after → (given_status error ≡ 3) ⊎ (given_status error ≡ 6)
+  given_failed (given.Source error) h failed = failed_error file before.files after.files error failed (given_loads file trace before.files after.files error h)
+  given_failed given.TraceNotRead h failed = inl refl
+  given_failed (given.TraceRefused kind line) h failed = absurd (failed h.2)
+
+  given_must_refuse : (error : GivenNo) → LoadsBoth file trace before.files after.files (Err error) → (bytes : List ℕ) (kind : ReadKind) (at : Spot)
       → IsGiven file bytes before → AreThere (file ∷ trace ∷ []) before → IsRefused bytes kind at → ReadsWell before after
       → ((given_status error ≡ 4) × (given_detail error ≡ refused_as kind at)) ⊎ (given_status error ≡ 6)
   given_must_refuse (given.Source error) h bytes kind at is there refused calm =
-      error_refused (told before.held file) before.read_faults after.read_faults bytes is error kind at
-      (given_loads (told before.held file) (told before.held trace) before.read_faults after.read_faults error h) refused calm
+      error_refused file before.files after.files bytes is error kind at
+      (given_loads file trace before.files after.files error h) refused calm
   given_must_refuse given.TraceNotRead h bytes kind at is there refused calm = not_read_trace _ h.1 calm (second file trace before there)
-  given_must_refuse (given.TraceRefused k line) h bytes kind at is there refused calm = absurd (found_refused (told before.held file) 0 0 bytes is h.0.0 kind at h.0.1 refused)
+  given_must_refuse (given.TraceRefused k line) h bytes kind at is there refused calm = absurd (found_refused file before.files after.files bytes is h.0.0 kind at h.0.1 refused)
 
-  given_must_refuse_scope : (error : GivenNo) → LoadsBoth (told before.held file) (told before.held trace) before.read_faults after.read_faults (Err error) → (bytes : List ℕ) (kind : ScopeKind) (at : Spot)
+  given_must_refuse_scope : (error : GivenNo) → LoadsBoth file trace before.files after.files (Err error) → (bytes : List ℕ) (kind : ScopeKind) (at : Spot)
       → IsGiven file bytes before → AreThere (file ∷ trace ∷ []) before → IsOutOfScope bytes kind at → ReadsWell before after
       → ((given_status error ≡ 4) × (given_detail error ≡ out_of_scope kind at)) ⊎ (given_status error ≡ 6)
   given_must_refuse_scope (given.Source error) h bytes kind at is there refused calm =
-      error_out_of_scope (told before.held file) before.read_faults after.read_faults bytes is error kind at
-      (given_loads (told before.held file) (told before.held trace) before.read_faults after.read_faults error h) refused calm
+      error_out_of_scope file before.files after.files bytes is error kind at
+      (given_loads file trace before.files after.files error h) refused calm
   given_must_refuse_scope given.TraceNotRead h bytes kind at is there refused calm = not_read_trace _ h.1 calm (second file trace before there)
-  given_must_refuse_scope (given.TraceRefused k line) h bytes kind at is there refused calm = absurd (found_out_of_scope (told before.held file) 0 0 bytes is h.0.0 kind at h.0.1 refused)
+  given_must_refuse_scope (given.TraceRefused k line) h bytes kind at is there refused calm = absurd (found_out_of_scope file before.files after.files bytes is h.0.0 kind at h.0.1 refused)
 
   -- a trace that is given is there
-  given_there : (text : List ℕ) → IsGiven trace text before → told before.held trace ≢ Some None
+  given_there : (text : List ℕ) → IsGiven trace text before → told before.files.held trace ≢ Some None
   given_there text is none = absurd (let x = sym is ∙ none in cc)
 
-  given_completes : (error : GivenNo) → LoadsBoth (told before.held file) (told before.held trace) before.read_faults after.read_faults (Err error) → (bytes text : List ℕ) (program : Table) (stated : Trace)
+  given_completes : (error : GivenNo) → LoadsBoth file trace before.files after.files (Err error) → (bytes text : List ℕ) (program : Table) (stated : Trace)
       → IsGiven file bytes before → IsProgramOf bytes program → IsGiven trace text before → IsTextOfTrace stated text → ReadsWell before after → given_status error ≡ 6
   given_completes (given.Source error) h bytes text program stated is source is_trace is_text calm =
-      error_checks (told before.held file) before.read_faults after.read_faults bytes is error program
-      (given_loads (told before.held file) (told before.held trace) before.read_faults after.read_faults error h) source calm
+      error_checks file before.files after.files bytes is error program
+      (given_loads file trace before.files after.files error h) source calm
   given_completes given.TraceNotRead h bytes text program stated is source is_trace is_text calm = not_read_trace _ h.1 calm (given_there text is_trace)
   given_completes (given.TraceRefused kind line) h bytes text program stated is source is_trace is_text calm =
-      absurd (not_refused text stated kind line is_text (due_trace (told before.held trace) text kind line is_trace h.1))
+      absurd (not_refused text stated kind line is_text (due_trace (told before.files.held trace) text kind line is_trace h.1))
 
-  given_must_refuse_trace : (error : GivenNo) → LoadsBoth (told before.held file) (told before.held trace) before.read_faults after.read_faults (Err error) → (bytes text : List ℕ) (program : Table)
+  given_must_refuse_trace : (error : GivenNo) → LoadsBoth file trace before.files after.files (Err error) → (bytes text : List ℕ) (program : Table)
       (kind : LineKind) (line : ℕ) → IsGiven file bytes before → IsProgramOf bytes program → IsGiven trace text before → trace_refusal text kind line → ReadsWell before after
       → ((given_status error ≡ 4) × (given_detail error ≡ refused_trace kind line)) ⊎ (given_status error ≡ 6)
   given_must_refuse_trace (given.Source error) h bytes text program kind line is source is_trace refusal calm =
-      inr (error_checks (told before.held file) before.read_faults after.read_faults bytes is error program
-      (given_loads (told before.held file) (told before.held trace) before.read_faults after.read_faults error h) source calm)
+      inr (error_checks file before.files after.files bytes is error program
+      (given_loads file trace before.files after.files error h) source calm)
   given_must_refuse_trace given.TraceNotRead h bytes text program kind line is source is_trace refusal calm = not_read_trace _ h.1 calm (given_there text is_trace)
   given_must_refuse_trace (given.TraceRefused k l) h bytes text program kind line is source is_trace refusal calm =
-      let same = one_refusal text k kind l line (due_trace (told before.held trace) text k l is_trace h.1) refusal in
+      let same = one_refusal text k kind l line (due_trace (told before.files.held trace) text k l is_trace h.1) refusal in
       inl (refl, ap (λ x. refused_trace x l) same.0 ∙ ap (λ x. refused_trace kind x) same.1)
 
-  pub replay_error : (outcome : Outcome) (error : GivenNo) → LoadsBoth (told before.held file) (told before.held trace) before.read_faults after.read_faults (Err error)
+  pub replay_error : (outcome : Outcome) (error : GivenNo) → LoadsBoth file trace before.files after.files (Err error)
       → outcome.status ≡ given_status error → outcome.detail ≡ given_detail error → IsIdle before after outcome
-      → Said before.err after.err before.err_faults after.err_faults (given_line file trace error) → TookPrefix before.err after.err (given_line file trace error)
+      → Said before.err after.err (given_line file trace error) → TookPrefix before.err.taken after.err.taken (given_line file trace error)
       → ReplayAnswers file trace before after outcome
   replay_error outcome error h is_status is_detail idle said at_most = record {
     statuses = rw is_status (inr (given_is_without error));
@@ -164,11 +173,13 @@ module _ (file trace : List ℕ) (before after : Seen) where
     must_differ = λ bytes text program stated is source is_trace is_text calm never. inr (is_status ∙ given_completes error h bytes text program stated is source is_trace is_text calm.reads);
     reads = record {
       missing = λ name among none. rw is_status (elim (one_of_two file trace name among) [
-        | inl e ↦ missing_file error h (subst (λ n. told before.held n ≡ Some None) e none)
-        | inr e ↦ missing_trace error h (subst (λ n. told before.held n ≡ Some None) e none)
+        | inl e ↦ missing_file error h (subst (λ n. told before.files.held n ≡ Some None) e none)
+        | inr e ↦ missing_trace error h (subst (λ n. told before.files.held n ≡ Some None) e none)
       ]);
       must_refuse = λ bytes kind at is there refused calm. rw (is_status, is_detail) (given_must_refuse error h bytes kind at is there refused calm);
       must_refuse_scope = λ bytes kind at is there refused calm. rw (is_status, is_detail) (given_must_refuse_scope error h bytes kind at is there refused calm);
+      failed_read = λ failed. rw is_status (given_failed error h failed);
+      failed_write = λ failed. rw is_status (elim (given_is_without error) [ inl w ↦ inl w | inr six ↦ inr (inl six) ]);
     };
     must_refuse_trace = λ bytes text program kind line is source is_trace refusal calm. rw (is_status, is_detail)
         (given_must_refuse_trace error h bytes text program kind line is source is_trace refusal calm);
@@ -184,4 +195,5 @@ module _ (file trace : List ℕ) (before after : Seen) where
       said_at_most = rw (is_status, is_detail, given_line_begun error outcome.end) at_most;
       end_said = λ ended written. absurd (given_not_replayed error (inl (subst IsEnded is_status ended)));
     };
+    differs_said = λ eight. absurd (given_not_replayed error (inr (sym is_status ∙ eight)));
   }

@@ -12,6 +12,7 @@ use Rattle.chocola.specs.Program.{IsProgramOf}
 use Rattle.chocola.specs.Outcome.{IsEnded, IsOfSource, IsIdle}
 use Rattle.chocola.specs.Seen.{Seen, IsCalm, IsGiven, IsUntouched}
 use Rattle.chocola.specs.SourceAnswers.{IsRefusedSource, ReadsSource, Says}
+use Rattle.chocola.specs.Status as exit
 use Rattle.chocola.specs.Written.{IsWritten}
 
 -- The file holds a source with this program by scope, where it is told what it holds: a front of the line of its counts
@@ -19,25 +20,25 @@ use Rattle.chocola.specs.Written.{IsWritten}
 pub record IsChecked (file : List ℕ) (before after : Seen) (outcome : Outcome) : Type 0 where
   pub bytes : List ℕ
   pub program : Table
-  pub read : IsHeld (told before.held file) bytes
+  pub read : IsHeld (told before.files.held file) bytes
   pub source : IsProgramOf bytes program
-  pub done : (outcome.status ≡ 0) ⊎ (outcome.status ≡ 7)
-  pub prefix : TookPrefix before.out after.out (check_line program)
-  pub all_when_written : IsWritten outcome.status before.out_faults after.out_faults → after.out ≡ append_known before.out (check_line program)
+  pub done : (outcome.status ≡ exit.done) ⊎ (outcome.status ≡ exit.not_written)
+  pub prefix : TookPrefix before.out.taken after.out.taken (check_line program)
+  pub all_when_written : IsWritten outcome.status before.out after.out → after.out.taken ≡ append_known before.out.taken (check_line program)
 
 pub record CheckAnswers (file : List ℕ) (before after : Seen) (outcome : Outcome) : Type 0 where
   pub statuses : IsOfSource outcome.status
   pub checked : IsEnded outcome.status → IsChecked file before after outcome
   pub complete : (bytes : List ℕ) (program : Table) → IsGiven file bytes before → IsProgramOf bytes program → IsCalm before after
-      → (outcome.status ≡ 0) ⊎ (outcome.status ≡ 6)
+      → (outcome.status ≡ exit.done) ⊎ (outcome.status ≡ exit.no_memory)
   -- the causes of the other statuses
   pub reads : ReadsSource file (file ∷ []) before after outcome
-  pub refused : outcome.status ≡ 4 → IsRefusedSource (told before.held file) outcome.detail
-  pub not_written : outcome.status ≡ 7 → Rose before.out_faults after.out_faults
+  pub refused : outcome.status ≡ exit.refused → IsRefusedSource (told before.files.held file) outcome.detail
+  pub not_written : outcome.status ≡ exit.not_written → Rose before.out.faults after.out.faults
   -- what else the outcome shows: nothing is run, and no name changes
   pub no_entries : outcome.history.items ≡ []
   pub no_end : outcome.end ≡ None
   pub files : IsUntouched before after
   pub idle : (IsEnded outcome.status → ⊥) → IsIdle before after outcome
-  pub detail : outcome.status ≢ 4 → outcome.detail ≡ Nothing
+  pub detail : outcome.status ≢ exit.refused → outcome.detail ≡ Nothing
   pub says : Says (file ∷ []) before after outcome

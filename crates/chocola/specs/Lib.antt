@@ -1,3 +1,4 @@
+pub mod Answers
 pub mod Check
 pub mod CheckAnswers
 pub mod Fetch
@@ -11,5 +12,6 @@ pub mod Replayed
 pub mod RunAnswers
 pub mod Seen
 pub mod SourceAnswers
+pub mod Status
 pub mod Traced
 pub mod Written

@@ -14,6 +14,7 @@ use Rattle.chocola.specs.declared.load.LoadNo.TheVariants as load
 use Rattle.chocola.specs.declared.load_replay.GivenNo.{GivenNo}
 use Rattle.chocola.specs.declared.load_replay.GivenNo.TheVariants as given
 use Rattle.chocola.specs.Outcome.{refused_as, out_of_scope, refused_trace}
+use Rattle.chocola.specs.Status as exit
 
 abbrev pub one_after_another : List (List ℕ) → List ℕ
 one_after_another pieces = flat_map (λ piece. piece) pieces
@@ -118,13 +119,13 @@ ended_line (Some end) = end_line end
 -- the line of an outcome with that status, detail and end, or nothing; `unread` is the name that was not read
 abbrev pub line_of : List ℕ → ℕ → Detail → Option End → List ℕ
 line_of unread status detail end =
-    if status == 1 then ended_line end
-    else if status == 2 then usage_line
-    else if status == 3 then cannot_read_line unread
-    else if status == 4 then detail_line detail
-    else if status == 5 then ended_line end
-    else if status == 6 then memory_line
-    else if status == 8 then detail_line detail
+    if status == exit.fault then ended_line end
+    else if status == exit.usage then usage_line
+    else if status == exit.not_read then cannot_read_line unread
+    else if status == exit.refused then detail_line detail
+    else if status == exit.spent then ended_line end
+    else if status == exit.no_memory then memory_line
+    else if status == exit.differs then detail_line detail
     else []
 
 -- the line of a run or a replay that was begun where something was not written
@@ -135,7 +136,7 @@ last_line (Differs line stated found) end = differs_line line
 
 -- the line that was begun: where something was not written, it may be a front of that last line
 abbrev pub line_begun : List ℕ → ℕ → Detail → Option End → List ℕ
-line_begun unread status detail end = if status == 7 then last_line detail end else line_of unread status detail end
+line_begun unread status detail end = if status == exit.not_written then last_line detail end else line_of unread status detail end
 
 -- the line where the file of that name gives no program
 abbrev pub load_line : List ℕ → LoadNo → List ℕ

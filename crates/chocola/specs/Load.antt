@@ -1,5 +1,5 @@
 -- What is answered to the reading of a program's file, and of a trace's.
-use Rattle.std.specs.Prelude.{◌≡◌, ◌≢◌, ℕ, ◌⊎◌, List, Option, None, Some, Result, Ok, Err, IfSome, IsSomeAnd}
+use Rattle.std.specs.Prelude.{◌≡◌, ◌≢◌, ℕ, List, Option, None, Some, Result, Ok, Err, IfSome, IsSomeAnd}
 use Rattle.value_core.specs.Place.{Spot}
 use Rattle.sexpr_reader.specs.Cursor.{start}
 use Rattle.sexpr_reader.specs.declared.error.ReadKind.{ReadKind}
@@ -18,9 +18,10 @@ use Rattle.serial_model.specs.declared.trace.LineKind.{LineKind}
 use Rattle.serial_model.specs.declared.trace.LineKind.TheVariants as line_kind
 use Rattle.trace_text.specs.declared.error.TraceNo.{TraceNo}
 use Rattle.trace_text.specs.declared.error.TraceNo.TheVariants as trace
-use Rattle.world_io.specs.Counts.{Rose}
-use Rattle.world_io.specs.Held.{IsHeld}
+use Rattle.world_io.specs.Held.{told, IsHeld}
+use Rattle.world_io.specs.Seen.{FilesSeen}
 use Rattle.core_syntax.specs.Table.{Table}
+use Rattle.chocola.specs.Fetch.{NoReadFailed, IsNotRead}
 use Rattle.chocola.specs.Program.{IsProgramOf}
 use Rattle.chocola.specs.declared.fetch.Fetched.{Fetched}
 use Rattle.chocola.specs.declared.fetch.Fetched.TheVariants.{Bytes, TooLong}
@@ -52,13 +53,13 @@ pub record IsScopeDue (found : Option (Option (List ℕ))) (kind : ScopeKind) (a
   pub read : IsHeld found bytes
   pub refused : IsOutOfScope bytes kind at
 
--- the cause of each answer, where `found` is what is told of the file and the count of read faults was `before`
-abbrev pub Loads : Option (Option (List ℕ)) → ℕ → ℕ → Result Table LoadNo → Type 0
-Loads found before now (Ok program) = IsLoaded found program
-Loads found before now (Err NotRead) = Rose before now ⊎ (found ≡ Some None)
-Loads found before now (Err (Refused kind at)) = IsDue found kind at
-Loads found before now (Err (OutOfScope kind at)) = IsScopeDue found kind at
-Loads found before now (Err Memory) = Unit {0}
+-- the cause of each answer; want of memory is free
+abbrev pub Loads : List ℕ → FilesSeen → FilesSeen → Result Table LoadNo → Type 0
+Loads name before after (Ok program) = IsLoaded (told before.held name) program × NoReadFailed before after
+Loads name before after (Err NotRead) = IsNotRead name before after
+Loads name before after (Err (Refused kind at)) = IsDue (told before.held name) kind at × NoReadFailed before after
+Loads name before after (Err (OutOfScope kind at)) = IsScopeDue (told before.held name) kind at × NoReadFailed before after
+Loads name before after (Err Memory) = Unit {0}
 
 -- the refusal of a source is passed on
 abbrev pub load_error : ReadNo → LoadNo
@@ -111,13 +112,15 @@ GivesTrace TooLong answer = ⊥
 
 -- The cause of each answer to the reading of a program and of a trace: both are read, in this order, before one is
 -- checked, and the program is checked first.
-abbrev pub LoadsBoth : Option (Option (List ℕ)) → Option (Option (List ℕ)) → ℕ → ℕ → Result Given GivenNo → Type 0
-LoadsBoth file trace before now (Ok both) = IsLoaded file both.program × IsTraced trace both.trace
-LoadsBoth file trace before now (Err (given.Source NotRead)) = Rose before now ⊎ (file ≡ Some None)
-LoadsBoth file trace before now (Err (given.Source Memory)) = Unit {0}
-LoadsBoth file trace before now (Err (given.Source error)) = (trace ≢ Some None) × Loads file before now (Err error)
-LoadsBoth file trace before now (Err given.TraceNotRead) = (file ≢ Some None) × (Rose before now ⊎ (trace ≡ Some None))
-LoadsBoth file trace before now (Err (given.TraceRefused kind line)) = ((program : Table) × IsLoaded file program) × IsTraceDue trace kind line
+abbrev pub LoadsBoth : List ℕ → List ℕ → FilesSeen → FilesSeen → Result Given GivenNo → Type 0
+LoadsBoth file trace before after (Ok both) =
+    IsLoaded (told before.held file) both.program × IsTraced (told before.held trace) both.trace × NoReadFailed before after
+LoadsBoth file trace before after (Err (given.Source NotRead)) = IsNotRead file before after
+LoadsBoth file trace before after (Err (given.Source Memory)) = Unit {0}
+LoadsBoth file trace before after (Err (given.Source error)) = (told before.held trace ≢ Some None) × Loads file before after (Err error)
+LoadsBoth file trace before after (Err given.TraceNotRead) = (told before.held file ≢ Some None) × IsNotRead trace before after
+LoadsBoth file trace before after (Err (given.TraceRefused kind line)) =
+    ((program : Table) × IsLoaded (told before.held file) program) × IsTraceDue (told before.held trace) kind line × NoReadFailed before after
 
 -- what becomes of both files where they were read
 abbrev pub GivesBoth : Fetched → Fetched → Result Given GivenNo → Type 0

@@ -1,12 +1,13 @@
 -- What an outcome says of its end, its status and its detail.
-use Rattle.std.specs.Prelude.{◌≡◌, ◌≢◌, ℕ, ◌⊎◌, ◌==◌, if◌then◌else◌, List, [], Option, None, Some, IfSome, IsSomeAnd}
+use Rattle.std.specs.Prelude.{◌≡◌, ◌≢◌, ℕ, ◌⊎◌, ◌==◌, if◌then◌else◌, [], Option, None, Some, IfSome, IsSomeAnd}
 use Rattle.std.specs.Io.KnownBytes.{append_known}
 use Rattle.value_core.specs.Place.{Spot}
+use Rattle.world_io.specs.Seen.{SinkSeen}
 use Rattle.world_io.specs.Taken.{TookPrefix}
 use Rattle.sexpr_reader.specs.declared.error.ReadKind.{ReadKind}
-use Rattle.sexpr_reader.specs.declared.error.ReadKind.TheVariants.{BadByte, Unclosed, Unmatched, BadNumber, BadString, TooNested, TooLong}
+use Rattle.sexpr_reader.specs.Kinds as text
 use Rattle.scope_check.specs.declared.error.ScopeKind.{ScopeKind}
-use Rattle.scope_check.specs.declared.error.ScopeKind.TheVariants.{Unknown, Twice, Arity, BadForm, EarlyGlobal, TooManyNodes}
+use Rattle.scope_check.specs.Kinds as scope
 use Rattle.serial_model.specs.declared.end.End.{End}
 use Rattle.serial_model.specs.declared.end.End.TheVariants.{UnitsSpent}
 use Rattle.serial_model.specs.State.{Setup, State}
@@ -22,54 +23,36 @@ use Rattle.chocola.specs.declared.load.LoadNo.TheVariants as load
 use Rattle.chocola.specs.declared.load_replay.GivenNo.{GivenNo}
 use Rattle.chocola.specs.declared.load_replay.GivenNo.TheVariants as given
 use Rattle.chocola.specs.Seen.{Seen, IsUntouched}
+use Rattle.chocola.specs.Status as exit
 use Rattle.chocola.specs.Written.{IsWritten}
 
--- a run, a replay or a check came to its end: 0 done, 1 fault, 5 budget spent, 7 not written
+-- a run, a replay or a check came to its end
 abbrev pub IsEnded : ℕ → Type 0
-IsEnded s = (s ≡ 0) ⊎ ((s ≡ 1) ⊎ ((s ≡ 5) ⊎ (s ≡ 7)))
+IsEnded s = (s ≡ exit.done) ⊎ ((s ≡ exit.fault) ⊎ ((s ≡ exit.spent) ⊎ (s ≡ exit.not_written)))
 
--- the statuses where the source is not run: 3 not read, 4 refused
+-- the statuses where the source is not run
 abbrev pub IsWithoutRun : ℕ → Type 0
-IsWithoutRun s = (s ≡ 3) ⊎ (s ≡ 4)
+IsWithoutRun s = (s ≡ exit.not_read) ⊎ (s ≡ exit.refused)
 
--- the statuses of a run and of a check: those, and 6 out of memory
+-- the statuses of a run and of a check: those, and want of memory
 abbrev pub IsOfSource : ℕ → Type 0
-IsOfSource s = IsEnded s ⊎ (IsWithoutRun s ⊎ (s ≡ 6))
+IsOfSource s = IsEnded s ⊎ (IsWithoutRun s ⊎ (s ≡ exit.no_memory))
 
--- the statuses that can come: those, and 2 usage, 8 replay differs
+-- the statuses that can come
 abbrev pub IsStatus : ℕ → Type 0
-IsStatus s = IsOfSource s ⊎ ((s ≡ 2) ⊎ (s ≡ 8))
+IsStatus s = IsOfSource s ⊎ ((s ≡ exit.usage) ⊎ (s ≡ exit.differs))
 
 -- the status is that of the end
 abbrev pub IsStatusOfEnd : Outcome → Type 0
 IsStatusOfEnd outcome = IsSomeAnd outcome.end (λ end. status end ≡ outcome.status)
 
--- the number of a refusal of the text
-abbrev pub kind_number : ReadKind → ℕ
-kind_number BadByte = 1
-kind_number Unclosed = 2
-kind_number Unmatched = 3
-kind_number BadNumber = 4
-kind_number BadString = 5
-kind_number TooNested = 6
-kind_number TooLong = 7
-
 -- the detail of a refused source
 abbrev pub refused_as : ReadKind → Spot → Detail
-refused_as kind at = Refused Source (kind_number kind) at.line at.column
-
--- the number of a refusal of the forms
-abbrev pub scope_kind_number : ScopeKind → ℕ
-scope_kind_number Unknown = 1
-scope_kind_number Twice = 2
-scope_kind_number Arity = 3
-scope_kind_number BadForm = 4
-scope_kind_number EarlyGlobal = 5
-scope_kind_number TooManyNodes = 6
+refused_as kind at = Refused Source (text.kind_number kind) at.line at.column
 
 -- the detail of a source whose forms are refused
 abbrev pub out_of_scope : ScopeKind → Spot → Detail
-out_of_scope kind at = Refused Scope (scope_kind_number kind) at.line at.column
+out_of_scope kind at = Refused Scope (scope.kind_number kind) at.line at.column
 
 -- the number of a refusal of a trace
 abbrev pub line_kind_number : LineKind → ℕ
@@ -83,29 +66,29 @@ refused_trace kind line = Refused Trace (line_kind_number kind) line 1
 -- A run or a replay: the history replays to a state; the end is the state's, where there is one, and the status is that
 -- of the end; a front of the state's bytes went to standard output, and all of them where they were written. Where the
 -- run ends for want of a unit, it has made as many as its limit.
-pub record Finished (setup : Setup) (old new : Option (List ℕ)) (before now : ℕ) (outcome : Outcome) : Type 0 where
+pub record Finished (setup : Setup) (old new : SinkSeen) (outcome : Outcome) : Type 0 where
   pub state : State
   pub history_replays : replay setup outcome.history.items ≡ Some state
   pub end_is_the_replays : IfSome outcome.end (IsOver setup state)
-  pub bytes_are_the_replays : TookPrefix old new state.bytes
-  pub none_without_entries : outcome.history.items ≡ [] → new ≡ old
-  pub all_when_written : IsWritten outcome.status before now → new ≡ append_known old state.bytes
-  pub status_is_the_ends : outcome.status ≢ 7 → IfSome outcome.end (λ end. status end ≡ outcome.status)
+  pub bytes_are_the_replays : TookPrefix old.taken new.taken state.bytes
+  pub none_without_entries : outcome.history.items ≡ [] → new.taken ≡ old.taken
+  pub all_when_written : IsWritten outcome.status old new → new.taken ≡ append_known old.taken state.bytes
+  pub status_is_the_ends : outcome.status ≢ exit.not_written → IfSome outcome.end (λ end. status end ≡ outcome.status)
   pub units_are_made : outcome.end ≡ Some UnitsSpent → state.made ≡ setup.limits.units
 
 -- nothing was run, and nothing written
 pub record IsIdle (before after : Seen) (outcome : Outcome) : Type 0 where
   pub history : outcome.history.items ≡ []
   pub end : outcome.end ≡ None
-  pub printed : after.out ≡ before.out
+  pub printed : after.out.taken ≡ before.out.taken
   pub files : IsUntouched before after
 
 -- the status and the detail where a file gives no program
 abbrev pub load_status : LoadNo → ℕ
-load_status load.NotRead = 3
-load_status (load.Refused kind at) = 4
-load_status (load.OutOfScope kind at) = 4
-load_status load.Memory = 6
+load_status load.NotRead = exit.not_read
+load_status (load.Refused kind at) = exit.refused
+load_status (load.OutOfScope kind at) = exit.refused
+load_status load.Memory = exit.no_memory
 
 abbrev pub load_detail : LoadNo → Detail
 load_detail load.NotRead = Nothing
@@ -116,8 +99,8 @@ load_detail load.Memory = Nothing
 -- and so where there is no replay
 abbrev pub given_status : GivenNo → ℕ
 given_status (given.Source error) = load_status error
-given_status given.TraceNotRead = 3
-given_status (given.TraceRefused kind line) = 4
+given_status given.TraceNotRead = exit.not_read
+given_status (given.TraceRefused kind line) = exit.refused
 
 abbrev pub given_detail : GivenNo → Detail
 given_detail (given.Source error) = load_detail error
@@ -126,4 +109,4 @@ given_detail (given.TraceRefused kind line) = refused_trace kind line
 
 -- the end of an outcome with that status, which is left out for want of memory
 abbrev pub end_unless_memory : ℕ → End → Option End
-end_unless_memory s end = if s == 6 then None else Some end
+end_unless_memory s end = if s == exit.no_memory then None else Some end

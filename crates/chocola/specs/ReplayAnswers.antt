@@ -1,7 +1,9 @@
 -- What is owed to `replay FILE TRACE`.
 use Rattle.std.specs.Prelude.{◌≡◌, ◌+◌, ℕ, ◌⊎◌, List, [], ◌∷◌, length, take, slice_get, Option, None, Some}
+use Rattle.std.specs.Io.KnownBytes.{append_known}
 use Rattle.world_io.specs.Counts.{Rose}
 use Rattle.world_io.specs.Held.{told, IsHeld}
+use Rattle.world_io.specs.Seen.{SinkSeen}
 use Rattle.core_syntax.specs.Table.{Table}
 use Rattle.serial_model.specs.State.{Setup, State}
 use Rattle.serial_model.specs.Replay.{replay, IsOver}
@@ -12,11 +14,13 @@ use Rattle.serial_model.specs.declared.trace.LineKind.{LineKind}
 use Rattle.chocola.specs.declared.outcome.Outcome.{Outcome}
 use Rattle.chocola.specs.declared.outcome.Detail.TheVariants.{Nothing, Differs}
 use Rattle.chocola.specs.Replayed.{IsRefusedNext, IsFound}
+use Rattle.chocola.specs.Lines.{detail_line}
 use Rattle.chocola.specs.Load.{IsTraceDue}
 use Rattle.chocola.specs.Program.{IsProgramOf}
 use Rattle.chocola.specs.Outcome.{IsEnded, IsWithoutRun, IsStatusOfEnd, IsIdle, Finished, refused_trace}
 use Rattle.chocola.specs.Seen.{Seen, ReadsWell, IsCalm, IsGiven, IsUntouched}
 use Rattle.chocola.specs.SourceAnswers.{IsRefusedSource, ReadsSource, Says}
+use Rattle.chocola.specs.Status as exit
 
 -- the program, under the limits of the trace
 abbrev pub setup_of : Table → Trace → Setup
@@ -46,20 +50,20 @@ pub record Agreeing (program : Table) (trace : Trace) (outcome : Outcome) : Type
   pub replays : Replays program trace
   pub detail : outcome.detail ≡ Nothing
 
--- the statuses of a replay: 8 differs, and those of an end
+-- the statuses of a replay: it differs, and those of an end
 abbrev pub IsReplayed : ℕ → Type 0
-IsReplayed s = IsEnded s ⊎ (s ≡ 8)
+IsReplayed s = IsEnded s ⊎ (s ≡ exit.differs)
 
 -- The replay of the trace on the program: the entries that were replayed are the first ones of the trace. It agrees with
 -- the trace, or differs, or stopped for want of memory.
-pub record ReplayOf (program : Table) (stated : Trace) (old new : Option (List ℕ)) (before now : ℕ) (outcome : Outcome) : Type 0 where
-  pub statuses : IsReplayed outcome.status ⊎ (outcome.status ≡ 6)
+pub record ReplayOf (program : Table) (stated : Trace) (old new : SinkSeen) (outcome : Outcome) : Type 0 where
+  pub statuses : IsReplayed outcome.status ⊎ (outcome.status ≡ exit.no_memory)
   pub first_entries : outcome.history.items ≡ take (length outcome.history.items) stated.history.items
-  pub finished : Finished (setup_of program stated) old new before now outcome
-  pub agrees : (outcome.status ≡ 0) ⊎ ((outcome.status ≡ 1) ⊎ (outcome.status ≡ 5)) → Agreeing program stated outcome
-  pub differs : outcome.status ≡ 8 → Differing program stated outcome
-  pub agrees_or_differs : outcome.status ≡ 7 → Agreeing program stated outcome ⊎ Differing program stated outcome
-  pub no_detail : outcome.status ≡ 6 → outcome.detail ≡ Nothing
+  pub finished : Finished (setup_of program stated) old new outcome
+  pub agrees : (outcome.status ≡ exit.done) ⊎ ((outcome.status ≡ exit.fault) ⊎ (outcome.status ≡ exit.spent)) → Agreeing program stated outcome
+  pub differs : outcome.status ≡ exit.differs → Differing program stated outcome
+  pub agrees_or_differs : outcome.status ≡ exit.not_written → Agreeing program stated outcome ⊎ Differing program stated outcome
+  pub no_detail : outcome.status ≡ exit.no_memory → outcome.detail ≡ Nothing
 
 -- the replay of the trace that TRACE holds, on the program that FILE holds, where it is told what they hold
 pub record IsReplay (file trace : List ℕ) (before after : Seen) (outcome : Outcome) : Type 0 where
@@ -67,32 +71,35 @@ pub record IsReplay (file trace : List ℕ) (before after : Seen) (outcome : Out
   pub text : List ℕ
   pub program : Table
   pub stated : Trace
-  pub read : IsHeld (told before.held file) bytes
+  pub read : IsHeld (told before.files.held file) bytes
   pub source : IsProgramOf bytes program
-  pub read_trace : IsHeld (told before.held trace) text
+  pub read_trace : IsHeld (told before.files.held trace) text
   pub is_text : IsTextOfTrace stated text
-  pub replay : ReplayOf program stated before.out after.out before.out_faults after.out_faults outcome
+  pub replay : ReplayOf program stated before.out after.out outcome
 
 pub record ReplayAnswers (file trace : List ℕ) (before after : Seen) (outcome : Outcome) : Type 0 where
-  pub statuses : IsReplayed outcome.status ⊎ (IsWithoutRun outcome.status ⊎ (outcome.status ≡ 6))
+  pub statuses : IsReplayed outcome.status ⊎ (IsWithoutRun outcome.status ⊎ (outcome.status ≡ exit.no_memory))
   -- the replay
   pub replayed : IsReplayed outcome.status → IsReplay file trace before after outcome
-  pub unless_memory : outcome.status ≡ 6 → IsIdle before after outcome ⊎ IsReplay file trace before after outcome
-  -- 0, 1 or 5 exactly where the trace replays to the end that it states, and else 8; or there was no memory
+  pub unless_memory : outcome.status ≡ exit.no_memory → IsIdle before after outcome ⊎ IsReplay file trace before after outcome
+  -- the status of the end exactly where the trace replays to the end that it states, and else it differs; or there was no
+  -- memory
   pub complete : (bytes text : List ℕ) (program : Table) (stated : Trace) → IsGiven file bytes before → IsProgramOf bytes program → IsGiven trace text before
-      → IsTextOfTrace stated text → IsCalm before after → Replays program stated → IsStatusOfEnd outcome ⊎ (outcome.status ≡ 6)
+      → IsTextOfTrace stated text → IsCalm before after → Replays program stated → IsStatusOfEnd outcome ⊎ (outcome.status ≡ exit.no_memory)
   pub must_differ : (bytes text : List ℕ) (program : Table) (stated : Trace) → IsGiven file bytes before → IsProgramOf bytes program → IsGiven trace text before
-      → IsTextOfTrace stated text → IsCalm before after → (Replays program stated → ⊥) → (outcome.status ≡ 8) ⊎ (outcome.status ≡ 6)
+      → IsTextOfTrace stated text → IsCalm before after → (Replays program stated → ⊥) → (outcome.status ≡ exit.differs) ⊎ (outcome.status ≡ exit.no_memory)
   -- the causes of the other statuses
   pub reads : ReadsSource file (file ∷ trace ∷ []) before after outcome
   pub must_refuse_trace : (bytes text : List ℕ) (program : Table) (kind : LineKind) (line : ℕ) → IsGiven file bytes before → IsProgramOf bytes program
       → IsGiven trace text before → trace_refusal text kind line → ReadsWell before after
-      → ((outcome.status ≡ 4) × (outcome.detail ≡ refused_trace kind line)) ⊎ (outcome.status ≡ 6)
-  pub refused : outcome.status ≡ 4 → IsRefusedSource (told before.held file) outcome.detail
-      ⊎ ((kind : LineKind) × (line : ℕ) × IsTraceDue (told before.held trace) kind line × (outcome.detail ≡ refused_trace kind line))
-  pub not_written : outcome.status ≡ 7 → Rose before.out_faults after.out_faults ⊎ Rose before.err_faults after.err_faults
+      → ((outcome.status ≡ exit.refused) × (outcome.detail ≡ refused_trace kind line)) ⊎ (outcome.status ≡ exit.no_memory)
+  pub refused : outcome.status ≡ exit.refused → IsRefusedSource (told before.files.held file) outcome.detail
+      ⊎ ((kind : LineKind) × (line : ℕ) × IsTraceDue (told before.files.held trace) kind line × (outcome.detail ≡ refused_trace kind line))
+  pub not_written : outcome.status ≡ exit.not_written → Rose before.out.faults after.out.faults ⊎ Rose before.err.faults after.err.faults
   -- what else the outcome shows: no name changes
   pub files : IsUntouched before after
   pub idle : IsWithoutRun outcome.status → IsIdle before after outcome
-  pub no_detail : (outcome.status ≡ 3) ⊎ (outcome.status ≡ 6) → outcome.detail ≡ Nothing
+  pub no_detail : (outcome.status ≡ exit.not_read) ⊎ (outcome.status ≡ exit.no_memory) → outcome.detail ≡ Nothing
   pub says : Says (file ∷ trace ∷ []) before after outcome
+  -- where it differs, its line was written whole
+  pub differs_said : outcome.status ≡ exit.differs → after.err.taken ≡ append_known before.err.taken (detail_line outcome.detail)

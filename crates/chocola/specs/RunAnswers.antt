@@ -1,4 +1,4 @@
--- What is owed to `run FILE` under these limits, with or without a trace.
+-- What is owed to a run under these limits, with or without a trace.
 use Rattle.std.specs.Prelude.{◌≡◌, ◌≢◌, ℕ, ◌⊎◌, List, [], ◌∷◌, Option, IsSome}
 use Rattle.world_io.specs.Counts.{Rose}
 use Rattle.world_io.specs.Held.{told, IsHeld}
@@ -10,31 +10,36 @@ use Rattle.chocola.specs.Program.{IsProgramOf}
 use Rattle.chocola.specs.Outcome.{IsEnded, IsWithoutRun, IsOfSource, IsStatusOfEnd, IsIdle, Finished}
 use Rattle.chocola.specs.Seen.{Seen, IsCalm, IsGiven}
 use Rattle.chocola.specs.SourceAnswers.{IsRefusedSource, ReadsSource, Says}
+use Rattle.chocola.specs.Status as exit
 use Rattle.chocola.specs.Traced.{KeepsTrace}
 
--- the run, under these limits, of the program that the file holds, where it is told what it holds
+-- The serializability theorem: the run, under these limits, of the program of a source with these bytes.
+pub record IsRunOf (bytes : List ℕ) (limits : Budget) (before after : Seen) (outcome : Outcome) : Type 0 where
+  pub program : Table
+  pub source : IsProgramOf bytes program
+  pub finished : Finished (record { program = program; limits = limits }) before.out after.out outcome
+
+-- the run of the source that the file holds, where it is told what it holds
 pub record IsRun (file : List ℕ) (limits : Budget) (before after : Seen) (outcome : Outcome) : Type 0 where
   pub bytes : List ℕ
-  pub program : Table
-  pub read : IsHeld (told before.held file) bytes
-  pub source : IsProgramOf bytes program
-  pub finished : Finished (record { program = program; limits = limits }) before.out after.out before.out_faults after.out_faults outcome
+  pub read : IsHeld (told before.files.held file) bytes
+  pub run : IsRunOf bytes limits before after outcome
 
 pub record RunAnswers (file : List ℕ) (limits : Budget) (trace : Option (List ℕ)) (before after : Seen) (outcome : Outcome) : Type 0 where
   pub statuses : IsOfSource outcome.status
-  -- the serializability theorem, for what the run answers
+  -- the run, which for want of memory stops early or never begins
   pub run : IsEnded outcome.status → IsRun file limits before after outcome
   pub ended : IsEnded outcome.status → IsSome outcome.end
-  pub unless_memory : outcome.status ≡ 6 → IsIdle before after outcome ⊎ IsRun file limits before after outcome
+  pub unless_memory : outcome.status ≡ exit.no_memory → IsIdle before after outcome ⊎ IsRun file limits before after outcome
   pub complete : (bytes : List ℕ) (program : Table) → IsGiven file bytes before → IsProgramOf bytes program → IsCalm before after
-      → IsStatusOfEnd outcome ⊎ (outcome.status ≡ 6)
+      → IsStatusOfEnd outcome ⊎ (outcome.status ≡ exit.no_memory)
   pub keeps : KeepsTrace limits trace before after outcome
   -- the causes of the other statuses
   pub reads : ReadsSource file (file ∷ []) before after outcome
-  pub refused : outcome.status ≡ 4 → IsRefusedSource (told before.held file) outcome.detail
-  pub not_written : outcome.status ≡ 7
-      → Rose before.out_faults after.out_faults ⊎ (Rose before.err_faults after.err_faults ⊎ Rose before.write_faults after.write_faults)
+  pub refused : outcome.status ≡ exit.refused → IsRefusedSource (told before.files.held file) outcome.detail
+  pub not_written : outcome.status ≡ exit.not_written
+      → Rose before.out.faults after.out.faults ⊎ (Rose before.err.faults after.err.faults ⊎ Rose before.files.write_faults after.files.write_faults)
   -- what else the outcome shows
   pub idle : IsWithoutRun outcome.status → IsIdle before after outcome
-  pub detail : outcome.status ≢ 4 → outcome.detail ≡ Nothing
+  pub detail : outcome.status ≢ exit.refused → outcome.detail ≡ Nothing
   pub says : Says (file ∷ []) before after outcome

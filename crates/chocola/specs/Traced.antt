@@ -7,11 +7,12 @@ use Rattle.serial_model.specs.Limits.{Budget}
 use Rattle.serial_model.specs.Trace.{trace_text}
 use Rattle.chocola.specs.declared.outcome.Outcome.{Outcome}
 use Rattle.chocola.specs.Seen.{Seen, IsUntouched}
+use Rattle.chocola.specs.Status as exit
 
 -- the run came to its end, and neither its bytes nor its trace failed to be written
 abbrev pub IsKept : ℕ → Seen → Seen → Type 0
 IsKept s before after =
-    (s ≡ 0) ⊎ ((s ≡ 1) ⊎ ((s ≡ 5) ⊎ ((s ≡ 7) × (Rose before.out_faults after.out_faults → ⊥) × (Rose before.write_faults after.write_faults → ⊥))))
+    (s ≡ exit.done) ⊎ ((s ≡ exit.fault) ⊎ ((s ≡ exit.spent) ⊎ ((s ≡ exit.not_written) × (Rose before.out.faults after.out.faults → ⊥) × (Rose before.files.write_faults after.files.write_faults → ⊥))))
 
 -- no name but that of the trace changed, and none where no trace is asked for
 abbrev pub KeepsOthers : Option (List ℕ) → Option (List FileItem) → Option (List FileItem) → ℕ → ℕ → Type 0
@@ -19,9 +20,10 @@ KeepsOthers None old new before now = (new ≡ old) × (now ≡ before)
 KeepsOthers (Some name) old new before now = IsSameBut name old new
 
 -- The name of the trace holds the limits, the history and the end as a trace's text. No other name changed, and none
--- where no trace is asked for, nor where the write of the run's bytes counted a fault.
+-- where no trace is asked for, nor where the write of the run's bytes counted a fault, nor for want of memory.
 pub record KeepsTrace (limits : Budget) (trace : Option (List ℕ)) (before after : Seen) (outcome : Outcome) : Type 0 where
   pub trace_holds_the_history : IfSome trace (λ name. IsKept outcome.status before after → IfSome outcome.end (λ end.
-      IsHeld (told after.held name) (trace_text (record { limits = limits; history = outcome.history; end = end }))))
-  pub no_other_name : KeepsOthers trace before.held after.held before.write_faults after.write_faults
-  pub none_after_a_fault : after.out_faults ≢ before.out_faults → IsUntouched before after
+      IsHeld (told after.files.held name) (trace_text (record { limits = limits; history = outcome.history; end = end }))))
+  pub no_other_name : KeepsOthers trace before.files.held after.files.held before.files.write_faults after.files.write_faults
+  pub none_after_a_fault : after.out.faults ≢ before.out.faults → IsUntouched before after
+  pub none_without_memory : outcome.status ≡ exit.no_memory → IsUntouched before after

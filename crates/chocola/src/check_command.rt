@@ -1,4 +1,4 @@
-ghost use Rattle.std.specs.Prelude.{◌≡◌, ◌≤◌, ◌⊎◌, [], None};
+ghost use Rattle.std.specs.Prelude.{◌≡◌, ◌≢◌, ◌≤◌, ◌⊎◌, [], None};
 ghost use Rattle.std.specs.Io.KnownBytes.{append_known};
 ghost use Rattle.world_io.specs.Counts.{Rose};
 ghost use Rattle.world_io.specs.Taken.{TookPrefix};
@@ -6,10 +6,12 @@ ghost use Rattle.chocola.specs.Check.{check_line};
 ghost use Rattle.chocola.specs.CheckAnswers.{CheckAnswers};
 ghost use Rattle.chocola.specs.Seen.{seen};
 ghost use Rattle.chocola.specs.Written.{IsWritten};
+ghost use Rattle.chocola.specs.Status as exit;
 
 use crate::lines::write_counts;
 use crate::load::load;
 use crate::outcome::{Detail, Outcome};
+use crate::status::{DONE, NOT_WRITTEN};
 use crate::without::without_program;
 use core_syntax::Program;
 use std::alloc::Global;
@@ -25,12 +27,12 @@ pub fn check_file<F: Files, K: Sink, E: Sink>(
     err: &mut E,
 ) -> Outcome
     ensures answers { CheckAnswers file.now
-        (seen (F.held files.old) (F.read_faults files.old) (F.write_faults files.old) (K.taken out.old) (K.faults out.old) (E.taken err.old) (E.faults err.old))
-        (seen (F.held files.new) (F.read_faults files.new) (F.write_faults files.new) (K.taken out.new) (K.faults out.new) (E.taken err.new) (E.faults err.new)) result }
-    ensures read_later { F.read_faults files.old ≤ F.read_faults files.new }
-    ensures write_later { F.write_faults files.old ≤ F.write_faults files.new }
-    ensures out_later { K.faults out.old ≤ K.faults out.new }
-    ensures err_later { E.faults err.old ≤ E.faults err.new }
+        (seen (F.seen files.old) (K.seen out.old) (E.seen err.old))
+        (seen (F.seen files.new) (K.seen out.new) (E.seen err.new)) result }
+    ensures read_later { (F.seen files.old).read_faults ≤ (F.seen files.new).read_faults }
+    ensures write_later { (F.seen files.old).write_faults ≤ (F.seen files.new).write_faults }
+    ensures out_later { (K.seen out.old).faults ≤ (K.seen out.new).faults }
+    ensures err_later { (E.seen err.old).faults ≤ (E.seen err.new).faults }
 {
     match load(alloc, files, file) {
         Ok(program) => tell_counts(alloc, &program, out),
@@ -40,19 +42,20 @@ pub fn check_file<F: Files, K: Sink, E: Sink>(
 
 /// Tells how many functions, behaviours and globals the program has.
 fn tell_counts<K: Sink>(alloc: Global, program: &Program, out: &mut K) -> Outcome
-    ensures status { (result.status ≡ 0) ⊎ (result.status ≡ 7) }
-    ensures prefix { TookPrefix (K.taken out.old) (K.taken out.new) (check_line program.now) }
-    ensures whole { IsWritten result.status (K.faults out.old) (K.faults out.new)
-        → K.taken out.new ≡ append_known (K.taken out.old) (check_line program.now) }
-    ensures fault { result.status ≡ 7 → Rose (K.faults out.old) (K.faults out.new) }
+    ensures status { (result.status ≡ exit.done) ⊎ (result.status ≡ exit.not_written) }
+    ensures prefix { TookPrefix (K.seen out.old).taken (K.seen out.new).taken (check_line program.now) }
+    ensures whole { IsWritten result.status (K.seen out.old) (K.seen out.new)
+        → (K.seen out.new).taken ≡ append_known (K.seen out.old).taken (check_line program.now) }
+    ensures fault { result.status ≡ exit.not_written → Rose (K.seen out.old).faults (K.seen out.new).faults }
+    ensures unfailed { result.status ≢ exit.not_written → (K.seen out.new).faults ≡ (K.seen out.old).faults }
     ensures history { result.history.items ≡ [] }
     ensures end { result.end ≡ None }
     ensures detail { result.detail ≡ Detail.Nothing }
-    ensures later { K.faults out.old ≤ K.faults out.new }
+    ensures later { (K.seen out.old).faults ≤ (K.seen out.new).faults }
 {
     let status = match write_counts(out, program) {
-        Ok(()) => 0,
-        Err(_) => 7,
+        Ok(()) => DONE,
+        Err(_) => NOT_WRITTEN,
     };
     Outcome::without_run(alloc, status, Detail::Nothing)
 }

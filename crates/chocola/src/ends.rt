@@ -1,6 +1,7 @@
 ghost use Rattle.std.specs.Prelude.{◌≡◌, ◌↔◌, IfOk, IsTrue};
 ghost use Rattle.serial_model.specs.Replay.{status};
 
+use crate::status::{DONE, FAULT, SPENT};
 use serial_model::End;
 use std::alloc::{AllocError, Global};
 use value_core::{Code, Name, Place};
@@ -10,10 +11,10 @@ pub fn end_status(end: &End) -> u8
     ensures { result ≡ status end.now }
 {
     match end {
-        End::Done => 0,
-        End::Fault { .. } => 1,
-        End::Spent { .. } => 5,
-        End::UnitsSpent => 5,
+        End::Done => DONE,
+        End::Fault { .. } => FAULT,
+        End::Spent { .. } => SPENT,
+        End::UnitsSpent => SPENT,
     }
 }
 

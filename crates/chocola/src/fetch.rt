@@ -1,5 +1,4 @@
 ghost use Rattle.std.specs.Prelude.{◌≡◌, ◌≤◌};
-ghost use Rattle.world_io.specs.Held.{told};
 ghost use Rattle.chocola.specs.Fetch.{Fetches};
 
 use std::alloc::Global;
@@ -32,10 +31,10 @@ pub fn fetch<F: Files>(
     name: &Text,
     limit: usize,
 ) -> Result<Fetched, FetchNo>
-    ensures fetches { Fetches (told (F.held files.old) name.now) limit (F.read_faults files.old) (F.read_faults files.new) result }
-    ensures later { F.read_faults files.old ≤ F.read_faults files.new }
-    ensures writes { F.write_faults files.new ≡ F.write_faults files.old }
-    ensures same { F.held files.new ≡ F.held files.old }
+    ensures fetches { Fetches name.now limit (F.seen files.old) (F.seen files.new) result }
+    ensures later { (F.seen files.old).read_faults ≤ (F.seen files.new).read_faults }
+    ensures writes { (F.seen files.new).write_faults ≡ (F.seen files.old).write_faults }
+    ensures same { (F.seen files.new).held ≡ (F.seen files.old).held }
 {
     match files.read(alloc, name, limit) {
         Ok(bytes) => Ok(Fetched::Bytes(bytes)),

@@ -14,47 +14,47 @@ use world_io::{Failed, Sink, write_all};
 
 /// Says that the words are refused.
 pub fn say_usage<E: Sink>(err: &mut E)
-    ensures prefix { TookPrefix (E.taken err.old) (E.taken err.new) usage_line }
-    ensures said { Said (E.taken err.old) (E.taken err.new) (E.faults err.old) (E.faults err.new) usage_line }
-    ensures later { E.faults err.old ≤ E.faults err.new }
+    ensures prefix { TookPrefix (E.seen err.old).taken (E.seen err.new).taken usage_line }
+    ensures said { Said (E.seen err.old) (E.seen err.new) usage_line }
+    ensures later { (E.seen err.old).faults ≤ (E.seen err.new).faults }
 {
     let _ = write_all(b"chocola: bad command line\n", err);
 }
 
 /// Says that there is no memory.
 pub fn say_memory<E: Sink>(err: &mut E)
-    ensures prefix { TookPrefix (E.taken err.old) (E.taken err.new) memory_line }
-    ensures said { Said (E.taken err.old) (E.taken err.new) (E.faults err.old) (E.faults err.new) memory_line }
-    ensures later { E.faults err.old ≤ E.faults err.new }
+    ensures prefix { TookPrefix (E.seen err.old).taken (E.seen err.new).taken memory_line }
+    ensures said { Said (E.seen err.old) (E.seen err.new) memory_line }
+    ensures later { (E.seen err.old).faults ≤ (E.seen err.new).faults }
 {
     let _ = write_all(b"out of memory\n", err);
 }
 
 /// Says that the file of that name was not read.
 pub fn say_not_read<E: Sink>(err: &mut E, name: &[u8])
-    ensures prefix { TookPrefix (E.taken err.old) (E.taken err.new) (cannot_read_line name.now) }
-    ensures said { Said (E.taken err.old) (E.taken err.new) (E.faults err.old) (E.faults err.new) (cannot_read_line name.now) }
-    ensures later { E.faults err.old ≤ E.faults err.new }
+    ensures prefix { TookPrefix (E.seen err.old).taken (E.seen err.new).taken (cannot_read_line name.now) }
+    ensures said { Said (E.seen err.old) (E.seen err.new) (cannot_read_line name.now) }
+    ensures later { (E.seen err.old).faults ≤ (E.seen err.new).faults }
 {
     say(err, &[b"cannot read ", name, b"\n"]);
 }
 
 /// Says what is refused.
 pub fn say_refused<E: Sink>(err: &mut E, detail: &Detail)
-    ensures prefix { TookPrefix (E.taken err.old) (E.taken err.new) (detail_line detail.now) }
-    ensures said { Said (E.taken err.old) (E.taken err.new) (E.faults err.old) (E.faults err.new) (detail_line detail.now) }
-    ensures later { E.faults err.old ≤ E.faults err.new }
+    ensures prefix { TookPrefix (E.seen err.old).taken (E.seen err.new).taken (detail_line detail.now) }
+    ensures said { Said (E.seen err.old) (E.seen err.new) (detail_line detail.now) }
+    ensures later { (E.seen err.old).faults ≤ (E.seen err.new).faults }
 {
     let _ = write_detail(err, detail);
 }
 
 /// Writes the line of the detail. `Failed` comes only where the count of the sink's faults rose.
 pub fn write_detail<E: Sink>(err: &mut E, detail: &Detail) -> Result<(), Failed>
-    ensures whole { OnOk result (E.taken err.new ≡ append_known (E.taken err.old) (detail_line detail.now)) }
-    ensures prefix { TookPrefix (E.taken err.old) (E.taken err.new) (detail_line detail.now) }
-    ensures said { Said (E.taken err.old) (E.taken err.new) (E.faults err.old) (E.faults err.new) (detail_line detail.now) }
-    ensures counts { CountsWrite result (E.faults err.old) (E.faults err.new) }
-    ensures later { E.faults err.old ≤ E.faults err.new }
+    ensures whole { OnOk result ((E.seen err.new).taken ≡ append_known (E.seen err.old).taken (detail_line detail.now)) }
+    ensures prefix { TookPrefix (E.seen err.old).taken (E.seen err.new).taken (detail_line detail.now) }
+    ensures said { Said (E.seen err.old) (E.seen err.new) (detail_line detail.now) }
+    ensures counts { CountsWrite result (E.seen err.old).faults (E.seen err.new).faults }
+    ensures later { (E.seen err.old).faults ≤ (E.seen err.new).faults }
 {
     match detail {
         Detail::Nothing => write_pieces(err, &[]),
@@ -75,11 +75,11 @@ fn write_refusal<E: Sink>(
     line: u64,
     column: u64,
 ) -> Result<(), Failed>
-    ensures whole { OnOk result (E.taken err.new ≡ append_known (E.taken err.old) (part_line part kind line column)) }
-    ensures prefix { TookPrefix (E.taken err.old) (E.taken err.new) (part_line part kind line column) }
-    ensures said { Said (E.taken err.old) (E.taken err.new) (E.faults err.old) (E.faults err.new) (part_line part kind line column) }
-    ensures counts { CountsWrite result (E.faults err.old) (E.faults err.new) }
-    ensures later { E.faults err.old ≤ E.faults err.new }
+    ensures whole { OnOk result ((E.seen err.new).taken ≡ append_known (E.seen err.old).taken (part_line part kind line column)) }
+    ensures prefix { TookPrefix (E.seen err.old).taken (E.seen err.new).taken (part_line part kind line column) }
+    ensures said { Said (E.seen err.old) (E.seen err.new) (part_line part kind line column) }
+    ensures counts { CountsWrite result (E.seen err.old).faults (E.seen err.new).faults }
+    ensures later { (E.seen err.old).faults ≤ (E.seen err.new).faults }
 {
     match part {
         Part::Source => write_source(err, part, kind, line, column),
@@ -95,11 +95,11 @@ fn write_source<E: Sink>(
     line: u64,
     column: u64,
 ) -> Result<(), Failed>
-    ensures whole { OnOk result (E.taken err.new ≡ append_known (E.taken err.old) (source_line part kind line column)) }
-    ensures prefix { TookPrefix (E.taken err.old) (E.taken err.new) (source_line part kind line column) }
-    ensures said { Said (E.taken err.old) (E.taken err.new) (E.faults err.old) (E.faults err.new) (source_line part kind line column) }
-    ensures counts { CountsWrite result (E.faults err.old) (E.faults err.new) }
-    ensures later { E.faults err.old ≤ E.faults err.new }
+    ensures whole { OnOk result ((E.seen err.new).taken ≡ append_known (E.seen err.old).taken (source_line part kind line column)) }
+    ensures prefix { TookPrefix (E.seen err.old).taken (E.seen err.new).taken (source_line part kind line column) }
+    ensures said { Said (E.seen err.old) (E.seen err.new) (source_line part kind line column) }
+    ensures counts { CountsWrite result (E.seen err.old).faults (E.seen err.new).faults }
+    ensures later { (E.seen err.old).faults ≤ (E.seen err.new).faults }
 {
     let mut line_digits = Buffer::new();
     let mut column_digits = Buffer::new();
@@ -118,11 +118,11 @@ fn write_source<E: Sink>(
 }
 
 fn write_trace_line<E: Sink>(err: &mut E, kind: u8, line: u64) -> Result<(), Failed>
-    ensures whole { OnOk result (E.taken err.new ≡ append_known (E.taken err.old) (trace_line kind line)) }
-    ensures prefix { TookPrefix (E.taken err.old) (E.taken err.new) (trace_line kind line) }
-    ensures said { Said (E.taken err.old) (E.taken err.new) (E.faults err.old) (E.faults err.new) (trace_line kind line) }
-    ensures counts { CountsWrite result (E.faults err.old) (E.faults err.new) }
-    ensures later { E.faults err.old ≤ E.faults err.new }
+    ensures whole { OnOk result ((E.seen err.new).taken ≡ append_known (E.seen err.old).taken (trace_line kind line)) }
+    ensures prefix { TookPrefix (E.seen err.old).taken (E.seen err.new).taken (trace_line kind line) }
+    ensures said { Said (E.seen err.old) (E.seen err.new) (trace_line kind line) }
+    ensures counts { CountsWrite result (E.seen err.old).faults (E.seen err.new).faults }
+    ensures later { (E.seen err.old).faults ≤ (E.seen err.new).faults }
 {
     let mut line_digits = Buffer::new();
     write_pieces(
@@ -138,11 +138,11 @@ fn write_trace_line<E: Sink>(err: &mut E, kind: u8, line: u64) -> Result<(), Fai
 }
 
 fn write_differs<E: Sink>(err: &mut E, line: u64) -> Result<(), Failed>
-    ensures whole { OnOk result (E.taken err.new ≡ append_known (E.taken err.old) (differs_line line)) }
-    ensures prefix { TookPrefix (E.taken err.old) (E.taken err.new) (differs_line line) }
-    ensures said { Said (E.taken err.old) (E.taken err.new) (E.faults err.old) (E.faults err.new) (differs_line line) }
-    ensures counts { CountsWrite result (E.faults err.old) (E.faults err.new) }
-    ensures later { E.faults err.old ≤ E.faults err.new }
+    ensures whole { OnOk result ((E.seen err.new).taken ≡ append_known (E.seen err.old).taken (differs_line line)) }
+    ensures prefix { TookPrefix (E.seen err.old).taken (E.seen err.new).taken (differs_line line) }
+    ensures said { Said (E.seen err.old) (E.seen err.new) (differs_line line) }
+    ensures counts { CountsWrite result (E.seen err.old).faults (E.seen err.new).faults }
+    ensures later { (E.seen err.old).faults ≤ (E.seen err.new).faults }
 {
     let mut line_digits = Buffer::new();
     write_pieces(
@@ -158,11 +158,11 @@ fn write_differs<E: Sink>(err: &mut E, line: u64) -> Result<(), Failed>
 /// Writes how many functions, behaviours and globals the program has. `Failed` comes only where the count of the sink's
 /// faults rose.
 pub fn write_counts<K: Sink>(out: &mut K, program: &Program) -> Result<(), Failed>
-    ensures whole { OnOk result (K.taken out.new ≡ append_known (K.taken out.old) (check_line program.now)) }
-    ensures prefix { TookPrefix (K.taken out.old) (K.taken out.new) (check_line program.now) }
-    ensures said { Said (K.taken out.old) (K.taken out.new) (K.faults out.old) (K.faults out.new) (check_line program.now) }
-    ensures counts { CountsWrite result (K.faults out.old) (K.faults out.new) }
-    ensures later { K.faults out.old ≤ K.faults out.new }
+    ensures whole { OnOk result ((K.seen out.new).taken ≡ append_known (K.seen out.old).taken (check_line program.now)) }
+    ensures prefix { TookPrefix (K.seen out.old).taken (K.seen out.new).taken (check_line program.now) }
+    ensures said { Said (K.seen out.old) (K.seen out.new) (check_line program.now) }
+    ensures counts { CountsWrite result (K.seen out.old).faults (K.seen out.new).faults }
+    ensures later { (K.seen out.old).faults ≤ (K.seen out.new).faults }
 {
     write_numbers(
         out,
@@ -179,11 +179,11 @@ fn write_numbers<K: Sink>(
     behaviours: u32,
     globals: u32,
 ) -> Result<(), Failed>
-    ensures whole { OnOk result (K.taken out.new ≡ append_known (K.taken out.old) (count_line functions behaviours globals)) }
-    ensures prefix { TookPrefix (K.taken out.old) (K.taken out.new) (count_line functions behaviours globals) }
-    ensures said { Said (K.taken out.old) (K.taken out.new) (K.faults out.old) (K.faults out.new) (count_line functions behaviours globals) }
-    ensures counts { CountsWrite result (K.faults out.old) (K.faults out.new) }
-    ensures later { K.faults out.old ≤ K.faults out.new }
+    ensures whole { OnOk result ((K.seen out.new).taken ≡ append_known (K.seen out.old).taken (count_line functions behaviours globals)) }
+    ensures prefix { TookPrefix (K.seen out.old).taken (K.seen out.new).taken (count_line functions behaviours globals) }
+    ensures said { Said (K.seen out.old) (K.seen out.new) (count_line functions behaviours globals) }
+    ensures counts { CountsWrite result (K.seen out.old).faults (K.seen out.new).faults }
+    ensures later { (K.seen out.old).faults ≤ (K.seen out.new).faults }
 {
     let mut function_digits = Buffer::new();
     let mut behaviour_digits = Buffer::new();
@@ -204,9 +204,9 @@ fn write_numbers<K: Sink>(
 
 /// Says the pieces, one after the other.
 fn say<E: Sink>(err: &mut E, pieces: &[&[u8]])
-    ensures prefix { TookPrefix (E.taken err.old) (E.taken err.new) (flat_map (λ piece. piece.now) pieces.now) }
-    ensures said { Said (E.taken err.old) (E.taken err.new) (E.faults err.old) (E.faults err.new) (flat_map (λ piece. piece.now) pieces.now) }
-    ensures later { E.faults err.old ≤ E.faults err.new }
+    ensures prefix { TookPrefix (E.seen err.old).taken (E.seen err.new).taken (flat_map (λ piece. piece.now) pieces.now) }
+    ensures said { Said (E.seen err.old) (E.seen err.new) (flat_map (λ piece. piece.now) pieces.now) }
+    ensures later { (E.seen err.old).faults ≤ (E.seen err.new).faults }
 {
     let _ = write_pieces(err, pieces);
 }
@@ -214,11 +214,11 @@ fn say<E: Sink>(err: &mut E, pieces: &[&[u8]])
 /// Writes the pieces, one after the other, up to the first that fails. `Failed` comes only where the count of the sink's
 /// faults rose.
 fn write_pieces<K: Sink>(sink: &mut K, pieces: &[&[u8]]) -> Result<(), Failed>
-    ensures whole { OnOk result (K.taken sink.new ≡ append_known (K.taken sink.old) (flat_map (λ piece. piece.now) pieces.now)) }
-    ensures prefix { TookPrefix (K.taken sink.old) (K.taken sink.new) (flat_map (λ piece. piece.now) pieces.now) }
-    ensures said { Said (K.taken sink.old) (K.taken sink.new) (K.faults sink.old) (K.faults sink.new) (flat_map (λ piece. piece.now) pieces.now) }
-    ensures counts { CountsWrite result (K.faults sink.old) (K.faults sink.new) }
-    ensures later { K.faults sink.old ≤ K.faults sink.new }
+    ensures whole { OnOk result ((K.seen sink.new).taken ≡ append_known (K.seen sink.old).taken (flat_map (λ piece. piece.now) pieces.now)) }
+    ensures prefix { TookPrefix (K.seen sink.old).taken (K.seen sink.new).taken (flat_map (λ piece. piece.now) pieces.now) }
+    ensures said { Said (K.seen sink.old) (K.seen sink.new) (flat_map (λ piece. piece.now) pieces.now) }
+    ensures counts { CountsWrite result (K.seen sink.old).faults (K.seen sink.new).faults }
+    ensures later { (K.seen sink.old).faults ≤ (K.seen sink.new).faults }
 {
     for piece in pieces {
         write_all(piece, sink)?;

@@ -1,6 +1,5 @@
 ghost use Rattle.std.specs.Prelude.{◌≡◌, ◌≤◌};
 ghost use Rattle.sexpr_reader.specs.Cursor.{start};
-ghost use Rattle.world_io.specs.Held.{told};
 ghost use Rattle.chocola.specs.Load.{Loads, GivesFile, GivesForms, GivesText, load_error, scope_error};
 
 use crate::fetch::{FetchNo, Fetched, fetch};
@@ -31,10 +30,10 @@ pub enum LoadNo {
 
 /// The program of the file under that name: its source is read, and the forms are checked.
 pub fn load<F: Files>(alloc: Global, files: &mut F, name: &Text) -> Result<Program, LoadNo>
-    ensures loads { Loads (told (F.held files.old) name.now) (F.read_faults files.old) (F.read_faults files.new) result }
-    ensures later { F.read_faults files.old ≤ F.read_faults files.new }
-    ensures writes { F.write_faults files.new ≡ F.write_faults files.old }
-    ensures same { F.held files.new ≡ F.held files.old }
+    ensures loads { Loads name.now (F.seen files.old) (F.seen files.new) result }
+    ensures later { (F.seen files.old).read_faults ≤ (F.seen files.new).read_faults }
+    ensures writes { (F.seen files.new).write_faults ≡ (F.seen files.old).write_faults }
+    ensures same { (F.seen files.new).held ≡ (F.seen files.old).held }
 {
     match fetch(alloc, files, name, SOURCE_LIMIT) {
         Ok(file) => program_of(alloc, &file),

@@ -1,15 +1,14 @@
 ghost use Rattle.std.specs.Prelude.{◌≡◌, ◌≤◌};
-ghost use Rattle.world_io.specs.Held.{told};
 ghost use Rattle.chocola.specs.Load.{LoadsBoth, GivesBoth, GivesTrace};
 
 use crate::fetch::{FetchNo, Fetched, fetch};
 use crate::load::{LoadNo, program_of};
 use core_syntax::Program;
-use serial_model::{LineKind, TRACE_LIMIT, Trace};
+use serial_model::{LineKind, Trace};
 use sexpr_reader::SOURCE_LIMIT;
 use std::alloc::Global;
 use thiserror::Error;
-use trace_text::{TraceNo, read_trace};
+use trace_text::{TRACE_LIMIT, TraceNo, read_trace};
 use value_core::Text;
 use world_io::Files;
 
@@ -42,11 +41,10 @@ pub fn load_replay<F: Files>(
     file: &Text,
     trace: &Text,
 ) -> Result<Given, GivenNo>
-    ensures loads { LoadsBoth (told (F.held files.old) file.now) (told (F.held files.old) trace.now)
-        (F.read_faults files.old) (F.read_faults files.new) result }
-    ensures later { F.read_faults files.old ≤ F.read_faults files.new }
-    ensures writes { F.write_faults files.new ≡ F.write_faults files.old }
-    ensures same { F.held files.new ≡ F.held files.old }
+    ensures loads { LoadsBoth file.now trace.now (F.seen files.old) (F.seen files.new) result }
+    ensures later { (F.seen files.old).read_faults ≤ (F.seen files.new).read_faults }
+    ensures writes { (F.seen files.new).write_faults ≡ (F.seen files.old).write_faults }
+    ensures same { (F.seen files.new).held ≡ (F.seen files.old).held }
 {
     let source = match fetch(alloc, files, file, SOURCE_LIMIT) {
         Ok(source) => source,

@@ -12,6 +12,7 @@ mod replay;
 mod replay_command;
 mod run;
 mod run_command;
+mod status;
 mod top;
 mod without;
 
@@ -43,6 +44,3 @@ fn command_words<R: Env + AllocGlobal>(rt: &R) -> Vec<String> {
         Err(_) => Vec::new(rt.alloc()),
     }
 }
-
-#[cfg(test)]
-mod tests;

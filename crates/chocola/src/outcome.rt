@@ -1,5 +1,5 @@
 ghost use Rattle.std.specs.Prelude.{◌≡◌, [], None};
-ghost use Rattle.chocola.specs.Outcome.{kind_number, scope_kind_number, line_kind_number};
+ghost use Rattle.chocola.specs.Outcome.{line_kind_number};
 
 use scope_check::ScopeKind;
 use serial_model::{End, History, LineKind};
@@ -59,7 +59,7 @@ impl Detail {
     {
         Detail::Refused {
             part: Part::Source,
-            kind: kind_number(kind),
+            kind: kind.number(),
             line: u64::from(at.line()),
             column: u64::from(at.column()),
         }
@@ -71,7 +71,7 @@ impl Detail {
     {
         Detail::Refused {
             part: Part::Scope,
-            kind: scope_kind_number(kind),
+            kind: kind.number(),
             line: u64::from(at.line()),
             column: u64::from(at.column()),
         }
@@ -87,33 +87,6 @@ impl Detail {
             line,
             column: 1,
         }
-    }
-}
-
-fn kind_number(kind: ReadKind) -> u8
-    ensures { result ≡ kind_number kind }
-{
-    match kind {
-        ReadKind::BadByte => 1,
-        ReadKind::Unclosed => 2,
-        ReadKind::Unmatched => 3,
-        ReadKind::BadNumber => 4,
-        ReadKind::BadString => 5,
-        ReadKind::TooNested => 6,
-        ReadKind::TooLong => 7,
-    }
-}
-
-fn scope_kind_number(kind: ScopeKind) -> u8
-    ensures { result ≡ scope_kind_number kind }
-{
-    match kind {
-        ScopeKind::Unknown => 1,
-        ScopeKind::Twice => 2,
-        ScopeKind::Arity => 3,
-        ScopeKind::BadForm => 4,
-        ScopeKind::EarlyGlobal => 5,
-        ScopeKind::TooManyNodes => 6,
     }
 }
 

@@ -1,4 +1,4 @@
-ghost use Rattle.std.specs.Prelude.{◌≡◌, ◌≢◌, ◌≤◌, ◌⊎◌, ◌+◌, [], None, Some, IfSome, IsErr, length};
+ghost use Rattle.std.specs.Prelude.{◌≡◌, ◌≢◌, ◌≤◌, ◌⊎◌, ◌+◌, [], None, Some, IfSome, IsOk, IsErr, length};
 ghost use Rattle.std.specs.Io.KnownBytes.{append_known};
 ghost use Rattle.serial_model.specs.Replay.{IsOver};
 ghost use Rattle.serial_machine.specs.Progress.{state_of};
@@ -8,6 +8,7 @@ ghost use Rattle.chocola.specs.Lines.{detail_line, end_line, ended_line, given_l
 ghost use Rattle.chocola.specs.Outcome.{IsEnded, Finished, given_status, given_detail};
 ghost use Rattle.chocola.specs.ReplayAnswers.{ReplayAnswers, ReplayOf};
 ghost use Rattle.chocola.specs.Seen.{seen};
+ghost use Rattle.chocola.specs.Status as exit;
 
 use crate::lines::{end_line, write_detail};
 use crate::load_replay::{Given, GivenNo, load_replay};
@@ -15,6 +16,7 @@ use crate::outcome::{Detail, Outcome};
 use crate::replay::{Replayed, replay};
 use crate::run::opened;
 use crate::run_command::say_end_after;
+use crate::status::{DIFFERS, NOT_WRITTEN};
 use crate::without::{not_read, out_of_memory, refuse, stopped, without_program};
 use serial_machine::Serial;
 use serial_model::{End, Entry};
@@ -32,12 +34,12 @@ pub fn replay_file<F: Files, K: Sink, E: Sink>(
     err: &mut E,
 ) -> Outcome
     ensures answers { ReplayAnswers file.now trace.now
-        (seen (F.held files.old) (F.read_faults files.old) (F.write_faults files.old) (K.taken out.old) (K.faults out.old) (E.taken err.old) (E.faults err.old))
-        (seen (F.held files.new) (F.read_faults files.new) (F.write_faults files.new) (K.taken out.new) (K.faults out.new) (E.taken err.new) (E.faults err.new)) result }
-    ensures read_later { F.read_faults files.old ≤ F.read_faults files.new }
-    ensures write_later { F.write_faults files.old ≤ F.write_faults files.new }
-    ensures out_later { K.faults out.old ≤ K.faults out.new }
-    ensures err_later { E.faults err.old ≤ E.faults err.new }
+        (seen (F.seen files.old) (K.seen out.old) (E.seen err.old))
+        (seen (F.seen files.new) (K.seen out.new) (E.seen err.new)) result }
+    ensures read_later { (F.seen files.old).read_faults ≤ (F.seen files.new).read_faults }
+    ensures write_later { (F.seen files.old).write_faults ≤ (F.seen files.new).write_faults }
+    ensures out_later { (K.seen out.old).faults ≤ (K.seen out.new).faults }
+    ensures err_later { (E.seen err.old).faults ≤ (E.seen err.new).faults }
 {
     match load_replay(alloc, files, file, trace) {
         Ok(given) => replay_given(alloc, given, out, err),
@@ -57,9 +59,9 @@ fn without_replay<E: Sink>(
     ensures detail { result.detail ≡ given_detail error }
     ensures history { result.history.items ≡ [] }
     ensures end { result.end ≡ None }
-    ensures said { Said (E.taken err.old) (E.taken err.new) (E.faults err.old) (E.faults err.new) (given_line file.now trace.now error) }
-    ensures said_at_most { TookPrefix (E.taken err.old) (E.taken err.new) (given_line file.now trace.now error) }
-    ensures later { E.faults err.old ≤ E.faults err.new }
+    ensures said { Said (E.seen err.old) (E.seen err.new) (given_line file.now trace.now error) }
+    ensures said_at_most { TookPrefix (E.seen err.old).taken (E.seen err.new).taken (given_line file.now trace.now error) }
+    ensures later { (E.seen err.old).faults ≤ (E.seen err.new).faults }
 {
     match error {
         GivenNo::Source(error) => without_program(alloc, error, file, err),
@@ -72,13 +74,16 @@ fn without_replay<E: Sink>(
 
 /// Replays what is given, and writes what it printed and its line.
 fn replay_given<K: Sink, E: Sink>(alloc: Global, given: Given, out: &mut K, err: &mut E) -> Outcome
-    ensures replay { ReplayOf given.program given.trace (K.taken out.old) (K.taken out.new) (K.faults out.old) (K.faults out.new) result }
-    ensures not_written { result.status ≡ 7 → Rose (K.faults out.old) (K.faults out.new) ⊎ Rose (E.faults err.old) (E.faults err.new) }
-    ensures said { Said (E.taken err.old) (E.taken err.new) (E.faults err.old) (E.faults err.new) (line_of [] result.status result.detail result.end) }
-    ensures said_at_most { TookPrefix (E.taken err.old) (E.taken err.new) (line_begun [] result.status result.detail result.end) }
-    ensures end_said { IsEnded result.status → result.status ≢ 7 → E.taken err.new ≡ append_known (E.taken err.old) (ended_line result.end) }
-    ensures out_later { K.faults out.old ≤ K.faults out.new }
-    ensures err_later { E.faults err.old ≤ E.faults err.new }
+    ensures replay { ReplayOf given.program given.trace (K.seen out.old) (K.seen out.new) result }
+    ensures not_written { result.status ≡ exit.not_written → Rose (K.seen out.old).faults (K.seen out.new).faults ⊎ Rose (E.seen err.old).faults (E.seen err.new).faults }
+    ensures unfailed { result.status ≢ exit.not_written → result.status ≢ exit.no_memory
+        → ((K.seen out.new).faults ≡ (K.seen out.old).faults) × ((E.seen err.new).faults ≡ (E.seen err.old).faults) }
+    ensures said { Said (E.seen err.old) (E.seen err.new) (line_of [] result.status result.detail result.end) }
+    ensures said_at_most { TookPrefix (E.seen err.old).taken (E.seen err.new).taken (line_begun [] result.status result.detail result.end) }
+    ensures end_said { IsEnded result.status → result.status ≢ exit.not_written → (E.seen err.new).taken ≡ append_known (E.seen err.old).taken (ended_line result.end) }
+    ensures differs_said { result.status ≡ exit.differs → (E.seen err.new).taken ≡ append_known (E.seen err.old).taken (detail_line result.detail) }
+    ensures out_later { (K.seen out.old).faults ≤ (K.seen out.new).faults }
+    ensures err_later { (E.seen err.old).faults ≤ (E.seen err.new).faults }
 {
     let Given { program, trace } = given;
     let Ok(mut serial) = opened(alloc, program, trace.limits) else {
@@ -100,17 +105,19 @@ fn agree<K: Sink, E: Sink>(
     err: &mut E,
 ) -> Outcome
     requires { IfSome (state_of serial) (λ s. IsOver serial.setup s end) }
-    ensures statuses { IsEnded result.status ⊎ (result.status ≡ 6) }
-    ensures finished { Finished serial.setup (K.taken out.old) (K.taken out.new) (K.faults out.old) (K.faults out.new) result }
+    ensures statuses { IsEnded result.status ⊎ (result.status ≡ exit.no_memory) }
+    ensures finished { Finished serial.setup (K.seen out.old) (K.seen out.new) result }
     ensures history { result.history.items ≡ serial.history }
     ensures end { IsEnded result.status → result.end ≡ Some end }
-    ensures not_written { result.status ≡ 7 → Rose (K.faults out.old) (K.faults out.new) ⊎ Rose (E.faults err.old) (E.faults err.new) }
+    ensures not_written { result.status ≡ exit.not_written → Rose (K.seen out.old).faults (K.seen out.new).faults ⊎ Rose (E.seen err.old).faults (E.seen err.new).faults }
+    ensures unfailed { result.status ≢ exit.not_written → result.status ≢ exit.no_memory
+        → ((K.seen out.new).faults ≡ (K.seen out.old).faults) × ((E.seen err.new).faults ≡ (E.seen err.old).faults) }
     ensures detail { result.detail ≡ Detail.Nothing }
-    ensures said { Said (E.taken err.old) (E.taken err.new) (E.faults err.old) (E.faults err.new) (line_of [] result.status result.detail result.end) }
-    ensures said_at_most { TookPrefix (E.taken err.old) (E.taken err.new) (line_begun [] result.status result.detail result.end) }
-    ensures end_said { IsEnded result.status → result.status ≢ 7 → E.taken err.new ≡ append_known (E.taken err.old) (ended_line result.end) }
-    ensures out_later { K.faults out.old ≤ K.faults out.new }
-    ensures err_later { E.faults err.old ≤ E.faults err.new }
+    ensures said { Said (E.seen err.old) (E.seen err.new) (line_of [] result.status result.detail result.end) }
+    ensures said_at_most { TookPrefix (E.seen err.old).taken (E.seen err.new).taken (line_begun [] result.status result.detail result.end) }
+    ensures end_said { IsEnded result.status → result.status ≢ exit.not_written → (E.seen err.new).taken ≡ append_known (E.seen err.old).taken (ended_line result.end) }
+    ensures out_later { (K.seen out.old).faults ≤ (K.seen out.new).faults }
+    ensures err_later { (E.seen err.old).faults ≤ (E.seen err.new).faults }
 {
     let Ok(line) = end_line(alloc, &end) else {
         return stopped(serial, err);
@@ -134,16 +141,19 @@ fn differ<K: Sink, E: Sink>(
     out: &mut K,
     err: &mut E,
 ) -> Outcome
-    ensures statuses { (result.status ≡ 7) ⊎ (result.status ≡ 8) }
-    ensures finished { Finished serial.setup (K.taken out.old) (K.taken out.new) (K.faults out.old) (K.faults out.new) result }
+    ensures statuses { (result.status ≡ exit.not_written) ⊎ (result.status ≡ exit.differs) }
+    ensures finished { Finished serial.setup (K.seen out.old) (K.seen out.new) result }
     ensures history { result.history.items ≡ serial.history }
     ensures end { result.end ≡ None }
-    ensures not_written { result.status ≡ 7 → Rose (K.faults out.old) (K.faults out.new) ⊎ Rose (E.faults err.old) (E.faults err.new) }
+    ensures not_written { result.status ≡ exit.not_written → Rose (K.seen out.old).faults (K.seen out.new).faults ⊎ Rose (E.seen err.old).faults (E.seen err.new).faults }
+    ensures unfailed { result.status ≢ exit.not_written
+        → ((K.seen out.new).faults ≡ (K.seen out.old).faults) × ((E.seen err.new).faults ≡ (E.seen err.old).faults) }
     ensures detail { result.detail ≡ Detail.Differs (3 + length serial.history) stated found }
-    ensures said { Said (E.taken err.old) (E.taken err.new) (E.faults err.old) (E.faults err.new) (line_of [] result.status result.detail result.end) }
-    ensures said_at_most { TookPrefix (E.taken err.old) (E.taken err.new) (line_begun [] result.status result.detail result.end) }
-    ensures out_later { K.faults out.old ≤ K.faults out.new }
-    ensures err_later { E.faults err.old ≤ E.faults err.new }
+    ensures differs_said { result.status ≡ exit.differs → (E.seen err.new).taken ≡ append_known (E.seen err.old).taken (detail_line result.detail) }
+    ensures said { Said (E.seen err.old) (E.seen err.new) (line_of [] result.status result.detail result.end) }
+    ensures said_at_most { TookPrefix (E.seen err.old).taken (E.seen err.new).taken (line_begun [] result.status result.detail result.end) }
+    ensures out_later { (K.seen out.old).faults ≤ (K.seen out.new).faults }
+    ensures err_later { (E.seen err.old).faults ≤ (E.seen err.new).faults }
 {
     let detail = Detail::Differs {
         line: line_after(serial.history().entries()),
@@ -167,21 +177,23 @@ fn line_after(entries: &[Entry]) -> u64
     entries.len() as u64 + 3
 }
 
-/// Writes the line of a replay that differs, where the bytes before it were written: 8, or 7 where something was not
-/// written.
+/// Writes the line of a replay that differs, where the bytes before it were written. It answers that it differs, or that
+/// something was not written.
 fn say_differs_after<E: Sink>(written: Result<(), Failed>, detail: &Detail, err: &mut E) -> u8
-    ensures status { (result ≡ 7) ⊎ (result ≡ 8) }
-    ensures unwritten { IsErr written → result ≡ 7 }
-    ensures fault { result ≡ 7 → IsErr written ⊎ Rose (E.faults err.old) (E.faults err.new) }
-    ensures said { Said (E.taken err.old) (E.taken err.new) (E.faults err.old) (E.faults err.new) (line_of [] result detail.now None) }
-    ensures said_at_most { TookPrefix (E.taken err.old) (E.taken err.new) (detail_line detail.now) }
-    ensures later { E.faults err.old ≤ E.faults err.new }
+    ensures status { (result ≡ exit.not_written) ⊎ (result ≡ exit.differs) }
+    ensures unwritten { IsErr written → result ≡ exit.not_written }
+    ensures fault { result ≡ exit.not_written → IsErr written ⊎ Rose (E.seen err.old).faults (E.seen err.new).faults }
+    ensures unfailed { result ≢ exit.not_written → IsOk written × ((E.seen err.new).faults ≡ (E.seen err.old).faults) }
+    ensures whole { result ≡ exit.differs → (E.seen err.new).taken ≡ append_known (E.seen err.old).taken (detail_line detail.now) }
+    ensures said { Said (E.seen err.old) (E.seen err.new) (line_of [] result detail.now None) }
+    ensures said_at_most { TookPrefix (E.seen err.old).taken (E.seen err.new).taken (detail_line detail.now) }
+    ensures later { (E.seen err.old).faults ≤ (E.seen err.new).faults }
 {
     match written {
         Ok(()) => match write_detail(err, detail) {
-            Ok(()) => 8,
-            Err(_) => 7,
+            Ok(()) => DIFFERS,
+            Err(_) => NOT_WRITTEN,
         },
-        Err(_) => 7,
+        Err(_) => NOT_WRITTEN,
     }
 }

@@ -1,4 +1,4 @@
-ghost use Rattle.std.specs.Prelude.{◌≡◌, ◌≢◌, ◌≤◌, ◌⊎◌, [], Some, IfSome, IsSome, IsOk, IsErr, OnOk};
+ghost use Rattle.std.specs.Prelude.{◌≡◌, ◌≢◌, ◌≤◌, ◌⊎◌, [], Some, IfSome, IsSome, IsOk, IsErr, IsErrOf, OnOk};
 ghost use Rattle.std.specs.Io.KnownBytes.{append_known};
 ghost use Rattle.serial_model.specs.Replay.{IsOver, status};
 ghost use Rattle.serial_model.specs.Trace.{trace_text};
@@ -10,14 +10,16 @@ ghost use Rattle.world_io.specs.Writes.{CountsFileWrite};
 ghost use Rattle.chocola.specs.Lines.{end_line, ended_line, line_of, line_begun};
 ghost use Rattle.chocola.specs.Outcome.{IsEnded, Finished, end_unless_memory};
 ghost use Rattle.chocola.specs.RunAnswers.{RunAnswers};
-ghost use Rattle.chocola.specs.Seen.{seen};
+ghost use Rattle.chocola.specs.Seen.{NoWriteFailed, seen};
 ghost use Rattle.chocola.specs.Traced.{KeepsTrace, KeepsOthers};
+ghost use Rattle.chocola.specs.Status as exit;
 
 use crate::ends::end_status;
 use crate::lines::{end_line, say_memory};
 use crate::load::load;
 use crate::outcome::{Detail, Outcome};
 use crate::run::{opened, run_to_end};
+use crate::status::{NO_MEMORY, NOT_WRITTEN};
 use crate::without::{out_of_memory, stopped, without_program};
 use core_syntax::Program;
 use serial_machine::Serial;
@@ -38,12 +40,12 @@ pub fn run_file<F: Files, K: Sink, E: Sink>(
     err: &mut E,
 ) -> Outcome
     ensures answers { RunAnswers file.now limits trace.now
-        (seen (F.held files.old) (F.read_faults files.old) (F.write_faults files.old) (K.taken out.old) (K.faults out.old) (E.taken err.old) (E.faults err.old))
-        (seen (F.held files.new) (F.read_faults files.new) (F.write_faults files.new) (K.taken out.new) (K.faults out.new) (E.taken err.new) (E.faults err.new)) result }
-    ensures read_later { F.read_faults files.old ≤ F.read_faults files.new }
-    ensures write_later { F.write_faults files.old ≤ F.write_faults files.new }
-    ensures out_later { K.faults out.old ≤ K.faults out.new }
-    ensures err_later { E.faults err.old ≤ E.faults err.new }
+        (seen (F.seen files.old) (K.seen out.old) (E.seen err.old))
+        (seen (F.seen files.new) (K.seen out.new) (E.seen err.new)) result }
+    ensures read_later { (F.seen files.old).read_faults ≤ (F.seen files.new).read_faults }
+    ensures write_later { (F.seen files.old).write_faults ≤ (F.seen files.new).write_faults }
+    ensures out_later { (K.seen out.old).faults ≤ (K.seen out.new).faults }
+    ensures err_later { (E.seen err.old).faults ≤ (E.seen err.new).faults }
 {
     match load(alloc, files, file) {
         Ok(program) => run_program(alloc, program, limits, trace, files, out, err),
@@ -61,22 +63,25 @@ fn run_program<F: Files, K: Sink, E: Sink>(
     out: &mut K,
     err: &mut E,
 ) -> Outcome
-    ensures statuses { IsEnded result.status ⊎ (result.status ≡ 6) }
-    ensures finished { Finished (record { program = program; limits = limits }) (K.taken out.old) (K.taken out.new) (K.faults out.old) (K.faults out.new) result }
+    ensures statuses { IsEnded result.status ⊎ (result.status ≡ exit.no_memory) }
+    ensures finished { Finished (record { program = program; limits = limits }) (K.seen out.old) (K.seen out.new) result }
     ensures ended { IsEnded result.status → IsSome result.end }
     ensures trace { KeepsTrace limits trace.now
-        (seen (F.held files.old) (F.read_faults files.old) (F.write_faults files.old) (K.taken out.old) (K.faults out.old) (E.taken err.old) (E.faults err.old))
-        (seen (F.held files.new) (F.read_faults files.new) (F.write_faults files.new) (K.taken out.new) (K.faults out.new) (E.taken err.new) (E.faults err.new)) result }
-    ensures not_written { result.status ≡ 7 → Rose (K.faults out.old) (K.faults out.new)
-        ⊎ (Rose (E.faults err.old) (E.faults err.new) ⊎ Rose (F.write_faults files.old) (F.write_faults files.new)) }
+        (seen (F.seen files.old) (K.seen out.old) (E.seen err.old))
+        (seen (F.seen files.new) (K.seen out.new) (E.seen err.new)) result }
+    ensures not_written { result.status ≡ exit.not_written → Rose (K.seen out.old).faults (K.seen out.new).faults
+        ⊎ (Rose (E.seen err.old).faults (E.seen err.new).faults ⊎ Rose (F.seen files.old).write_faults (F.seen files.new).write_faults) }
+    ensures unfailed { result.status ≢ exit.not_written → result.status ≢ exit.no_memory → NoWriteFailed
+        (seen (F.seen files.old) (K.seen out.old) (E.seen err.old))
+        (seen (F.seen files.new) (K.seen out.new) (E.seen err.new)) }
     ensures detail { result.detail ≡ Detail.Nothing }
-    ensures said { Said (E.taken err.old) (E.taken err.new) (E.faults err.old) (E.faults err.new) (line_of [] result.status result.detail result.end) }
-    ensures said_at_most { TookPrefix (E.taken err.old) (E.taken err.new) (line_begun [] result.status result.detail result.end) }
-    ensures end_said { IsEnded result.status → result.status ≢ 7 → E.taken err.new ≡ append_known (E.taken err.old) (ended_line result.end) }
-    ensures reads { F.read_faults files.new ≡ F.read_faults files.old }
-    ensures write_later { F.write_faults files.old ≤ F.write_faults files.new }
-    ensures out_later { K.faults out.old ≤ K.faults out.new }
-    ensures err_later { E.faults err.old ≤ E.faults err.new }
+    ensures said { Said (E.seen err.old) (E.seen err.new) (line_of [] result.status result.detail result.end) }
+    ensures said_at_most { TookPrefix (E.seen err.old).taken (E.seen err.new).taken (line_begun [] result.status result.detail result.end) }
+    ensures end_said { IsEnded result.status → result.status ≢ exit.not_written → (E.seen err.new).taken ≡ append_known (E.seen err.old).taken (ended_line result.end) }
+    ensures reads { (F.seen files.new).read_faults ≡ (F.seen files.old).read_faults }
+    ensures write_later { (F.seen files.old).write_faults ≤ (F.seen files.new).write_faults }
+    ensures out_later { (K.seen out.old).faults ≤ (K.seen out.new).faults }
+    ensures err_later { (E.seen err.old).faults ≤ (E.seen err.new).faults }
 {
     let Ok(mut serial) = opened(alloc, program, limits) else {
         return out_of_memory(alloc, err);
@@ -117,22 +122,25 @@ fn finish<F: Files, K: Sink, E: Sink>(
     requires limits { serial.setup.limits ≡ limits }
     requires over { IfSome (state_of serial) (λ s. IsOver serial.setup s end) }
     requires line { line.now ≡ end_line end }
-    ensures statuses { IsEnded result.status ⊎ (result.status ≡ 6) }
-    ensures finished { Finished serial.setup (K.taken out.old) (K.taken out.new) (K.faults out.old) (K.faults out.new) result }
+    ensures statuses { IsEnded result.status ⊎ (result.status ≡ exit.no_memory) }
+    ensures finished { Finished serial.setup (K.seen out.old) (K.seen out.new) result }
     ensures ended { IsEnded result.status → IsSome result.end }
     ensures trace { KeepsTrace limits trace.now
-        (seen (F.held files.old) (F.read_faults files.old) (F.write_faults files.old) (K.taken out.old) (K.faults out.old) (E.taken err.old) (E.faults err.old))
-        (seen (F.held files.new) (F.read_faults files.new) (F.write_faults files.new) (K.taken out.new) (K.faults out.new) (E.taken err.new) (E.faults err.new)) result }
-    ensures not_written { result.status ≡ 7 → Rose (K.faults out.old) (K.faults out.new)
-        ⊎ (Rose (E.faults err.old) (E.faults err.new) ⊎ Rose (F.write_faults files.old) (F.write_faults files.new)) }
+        (seen (F.seen files.old) (K.seen out.old) (E.seen err.old))
+        (seen (F.seen files.new) (K.seen out.new) (E.seen err.new)) result }
+    ensures not_written { result.status ≡ exit.not_written → Rose (K.seen out.old).faults (K.seen out.new).faults
+        ⊎ (Rose (E.seen err.old).faults (E.seen err.new).faults ⊎ Rose (F.seen files.old).write_faults (F.seen files.new).write_faults) }
+    ensures unfailed { result.status ≢ exit.not_written → result.status ≢ exit.no_memory → NoWriteFailed
+        (seen (F.seen files.old) (K.seen out.old) (E.seen err.old))
+        (seen (F.seen files.new) (K.seen out.new) (E.seen err.new)) }
     ensures detail { result.detail ≡ Detail.Nothing }
-    ensures said { Said (E.taken err.old) (E.taken err.new) (E.faults err.old) (E.faults err.new) (line_of [] result.status result.detail result.end) }
-    ensures said_at_most { TookPrefix (E.taken err.old) (E.taken err.new) (line_begun [] result.status result.detail result.end) }
-    ensures end_said { IsEnded result.status → result.status ≢ 7 → E.taken err.new ≡ append_known (E.taken err.old) (ended_line result.end) }
-    ensures reads { F.read_faults files.new ≡ F.read_faults files.old }
-    ensures write_later { F.write_faults files.old ≤ F.write_faults files.new }
-    ensures out_later { K.faults out.old ≤ K.faults out.new }
-    ensures err_later { E.faults err.old ≤ E.faults err.new }
+    ensures said { Said (E.seen err.old) (E.seen err.new) (line_of [] result.status result.detail result.end) }
+    ensures said_at_most { TookPrefix (E.seen err.old).taken (E.seen err.new).taken (line_begun [] result.status result.detail result.end) }
+    ensures end_said { IsEnded result.status → result.status ≢ exit.not_written → (E.seen err.new).taken ≡ append_known (E.seen err.old).taken (ended_line result.end) }
+    ensures reads { (F.seen files.new).read_faults ≡ (F.seen files.old).read_faults }
+    ensures write_later { (F.seen files.old).write_faults ≤ (F.seen files.new).write_faults }
+    ensures out_later { (K.seen out.old).faults ≤ (K.seen out.new).faults }
+    ensures err_later { (E.seen err.old).faults ≤ (E.seen err.new).faults }
 {
     let written = write_all(serial.output(), out);
     let history = serial.into_history();
@@ -153,7 +161,7 @@ fn outcome_of(status: u8, ran: Trace) -> Outcome
     ensures detail { result.detail ≡ Detail.Nothing }
 {
     let Trace { history, end, .. } = ran;
-    let end = if status == 6 { None } else { Some(end) };
+    let end = if status == NO_MEMORY { None } else { Some(end) };
     Outcome {
         status,
         history,
@@ -174,29 +182,32 @@ fn keep_and_say<F: Files, E: Sink>(
     err: &mut E,
 ) -> u8
     requires { line.now ≡ end_line ran.now.end }
-    ensures status { IsEnded result ⊎ (result ≡ 6) }
-    ensures of_end { result ≢ 7 → result ≢ 6 → status ran.now.end ≡ result }
-    ensures holds { IsOk written → IsEnded result → (result ≡ 7 → Rose (F.write_faults files.old) (F.write_faults files.new) → ⊥)
-        → IfSome trace.now (λ name. IsHeld (told (F.held files.new) name) (trace_text ran.now)) }
-    ensures others { KeepsOthers trace.now (F.held files.old) (F.held files.new) (F.write_faults files.old) (F.write_faults files.new) }
-    ensures unwritten { IsErr written → (result ≡ 7) × (F.held files.new ≡ F.held files.old) × (F.write_faults files.new ≡ F.write_faults files.old) }
-    ensures fault { result ≡ 7 → IsErr written ⊎ (Rose (E.faults err.old) (E.faults err.new) ⊎ Rose (F.write_faults files.old) (F.write_faults files.new)) }
-    ensures said { Said (E.taken err.old) (E.taken err.new) (E.faults err.old) (E.faults err.new) (line_of [] result Detail.Nothing (Some ran.now.end)) }
-    ensures said_at_most { TookPrefix (E.taken err.old) (E.taken err.new) (line_begun [] result Detail.Nothing (Some ran.now.end)) }
-    ensures end_said { IsEnded result → result ≢ 7 → E.taken err.new ≡ append_known (E.taken err.old) (end_line ran.now.end) }
-    ensures reads { F.read_faults files.new ≡ F.read_faults files.old }
-    ensures write_later { F.write_faults files.old ≤ F.write_faults files.new }
-    ensures err_later { E.faults err.old ≤ E.faults err.new }
+    ensures status { IsEnded result ⊎ (result ≡ exit.no_memory) }
+    ensures of_end { result ≢ exit.not_written → result ≢ exit.no_memory → status ran.now.end ≡ result }
+    ensures holds { IsOk written → IsEnded result → (result ≡ exit.not_written → Rose (F.seen files.old).write_faults (F.seen files.new).write_faults → ⊥)
+        → IfSome trace.now (λ name. IsHeld (told (F.seen files.new).held name) (trace_text ran.now)) }
+    ensures others { KeepsOthers trace.now (F.seen files.old).held (F.seen files.new).held (F.seen files.old).write_faults (F.seen files.new).write_faults }
+    ensures unwritten { IsErr written → (result ≡ exit.not_written) × ((F.seen files.new).held ≡ (F.seen files.old).held) × ((F.seen files.new).write_faults ≡ (F.seen files.old).write_faults) }
+    ensures untouched { result ≡ exit.no_memory → ((F.seen files.new).held ≡ (F.seen files.old).held) × ((F.seen files.new).write_faults ≡ (F.seen files.old).write_faults) }
+    ensures unfailed { result ≢ exit.not_written → result ≢ exit.no_memory
+        → IsOk written × ((E.seen err.new).faults ≡ (E.seen err.old).faults) × ((F.seen files.new).write_faults ≡ (F.seen files.old).write_faults) }
+    ensures fault { result ≡ exit.not_written → IsErr written ⊎ (Rose (E.seen err.old).faults (E.seen err.new).faults ⊎ Rose (F.seen files.old).write_faults (F.seen files.new).write_faults) }
+    ensures said { Said (E.seen err.old) (E.seen err.new) (line_of [] result Detail.Nothing (Some ran.now.end)) }
+    ensures said_at_most { TookPrefix (E.seen err.old).taken (E.seen err.new).taken (line_begun [] result Detail.Nothing (Some ran.now.end)) }
+    ensures end_said { IsEnded result → result ≢ exit.not_written → (E.seen err.new).taken ≡ append_known (E.seen err.old).taken (end_line ran.now.end) }
+    ensures reads { (F.seen files.new).read_faults ≡ (F.seen files.old).read_faults }
+    ensures write_later { (F.seen files.old).write_faults ≤ (F.seen files.new).write_faults }
+    ensures err_later { (E.seen err.old).faults ≤ (E.seen err.new).faults }
 {
     if written.is_err() {
-        return 7;
+        return NOT_WRITTEN;
     }
     match keep(alloc, ran, trace, files) {
         Ok(()) => say_end(&ran.end, line, err),
-        Err(WriteNo::Failed) => 7,
+        Err(WriteNo::Failed) => NOT_WRITTEN,
         Err(WriteNo::Memory) => {
             say_memory(err);
-            6
+            NO_MEMORY
         }
     }
 }
@@ -208,11 +219,12 @@ fn keep<F: Files>(
     trace: &Option<Text>,
     files: &mut F,
 ) -> Result<(), WriteNo>
-    ensures holds { OnOk result (IfSome trace.now (λ name. IsHeld (told (F.held files.new) name) (trace_text ran.now))) }
-    ensures others { KeepsOthers trace.now (F.held files.old) (F.held files.new) (F.write_faults files.old) (F.write_faults files.new) }
-    ensures faults { CountsFileWrite result (F.write_faults files.old) (F.write_faults files.new) }
-    ensures later { F.write_faults files.old ≤ F.write_faults files.new }
-    ensures reads { F.read_faults files.new ≡ F.read_faults files.old }
+    ensures holds { OnOk result (IfSome trace.now (λ name. IsHeld (told (F.seen files.new).held name) (trace_text ran.now))) }
+    ensures others { KeepsOthers trace.now (F.seen files.old).held (F.seen files.new).held (F.seen files.old).write_faults (F.seen files.new).write_faults }
+    ensures memory { IsErrOf result WriteNo.Memory → (F.seen files.new).held ≡ (F.seen files.old).held }
+    ensures faults { CountsFileWrite result (F.seen files.old).write_faults (F.seen files.new).write_faults }
+    ensures later { (F.seen files.old).write_faults ≤ (F.seen files.new).write_faults }
+    ensures reads { (F.seen files.new).read_faults ≡ (F.seen files.old).read_faults }
 {
     let Some(name) = trace else {
         return Ok(());
@@ -227,16 +239,17 @@ fn keep<F: Files>(
 fn say_end<E: Sink>(end: &End, line: &[u8], err: &mut E) -> u8
     requires { line.now ≡ end_line end.now }
     ensures status { IsEnded result }
-    ensures of_end { result ≢ 7 → status end.now ≡ result }
-    ensures fault { result ≡ 7 → Rose (E.faults err.old) (E.faults err.new) }
-    ensures said { Said (E.taken err.old) (E.taken err.new) (E.faults err.old) (E.faults err.new) (line_of [] result Detail.Nothing (Some end.now)) }
-    ensures said_at_most { TookPrefix (E.taken err.old) (E.taken err.new) (line_begun [] result Detail.Nothing (Some end.now)) }
-    ensures end_said { result ≢ 7 → E.taken err.new ≡ append_known (E.taken err.old) (end_line end.now) }
-    ensures later { E.faults err.old ≤ E.faults err.new }
+    ensures of_end { result ≢ exit.not_written → status end.now ≡ result }
+    ensures fault { result ≡ exit.not_written → Rose (E.seen err.old).faults (E.seen err.new).faults }
+    ensures unfailed { result ≢ exit.not_written → (E.seen err.new).faults ≡ (E.seen err.old).faults }
+    ensures said { Said (E.seen err.old) (E.seen err.new) (line_of [] result Detail.Nothing (Some end.now)) }
+    ensures said_at_most { TookPrefix (E.seen err.old).taken (E.seen err.new).taken (line_begun [] result Detail.Nothing (Some end.now)) }
+    ensures end_said { result ≢ exit.not_written → (E.seen err.new).taken ≡ append_known (E.seen err.old).taken (end_line end.now) }
+    ensures later { (E.seen err.old).faults ≤ (E.seen err.new).faults }
 {
     match write_all(line, err) {
         Ok(()) => end_status(end),
-        Err(_) => 7,
+        Err(_) => NOT_WRITTEN,
     }
 }
 
@@ -249,16 +262,17 @@ pub fn say_end_after<E: Sink>(
 ) -> u8
     requires { line.now ≡ end_line end.now }
     ensures status { IsEnded result }
-    ensures of_end { result ≢ 7 → status end.now ≡ result }
-    ensures unwritten { IsErr written → result ≡ 7 }
-    ensures fault { result ≡ 7 → IsErr written ⊎ Rose (E.faults err.old) (E.faults err.new) }
-    ensures said { Said (E.taken err.old) (E.taken err.new) (E.faults err.old) (E.faults err.new) (line_of [] result Detail.Nothing (Some end.now)) }
-    ensures said_at_most { TookPrefix (E.taken err.old) (E.taken err.new) (line_begun [] result Detail.Nothing (Some end.now)) }
-    ensures end_said { result ≢ 7 → E.taken err.new ≡ append_known (E.taken err.old) (end_line end.now) }
-    ensures later { E.faults err.old ≤ E.faults err.new }
+    ensures of_end { result ≢ exit.not_written → status end.now ≡ result }
+    ensures unwritten { IsErr written → result ≡ exit.not_written }
+    ensures fault { result ≡ exit.not_written → IsErr written ⊎ Rose (E.seen err.old).faults (E.seen err.new).faults }
+    ensures unfailed { result ≢ exit.not_written → IsOk written × ((E.seen err.new).faults ≡ (E.seen err.old).faults) }
+    ensures said { Said (E.seen err.old) (E.seen err.new) (line_of [] result Detail.Nothing (Some end.now)) }
+    ensures said_at_most { TookPrefix (E.seen err.old).taken (E.seen err.new).taken (line_begun [] result Detail.Nothing (Some end.now)) }
+    ensures end_said { result ≢ exit.not_written → (E.seen err.new).taken ≡ append_known (E.seen err.old).taken (end_line end.now) }
+    ensures later { (E.seen err.old).faults ≤ (E.seen err.new).faults }
 {
     match written {
         Ok(()) => say_end(end, line, err),
-        Err(_) => 7,
+        Err(_) => NOT_WRITTEN,
     }
 }

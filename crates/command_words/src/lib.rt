@@ -11,6 +11,3 @@ mod words_no;
 pub use command::Command;
 pub use words::read_words;
 pub use words_no::WordsNo;
-
-#[cfg(test)]
-mod tests;

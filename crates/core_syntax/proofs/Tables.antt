@@ -8,14 +8,13 @@ use Rattle.std.proofs.lemmas.Option.{none-some}
 use Rattle.std.proofs.lemmas.List.Elements.{All-weaker, All-map, All-push, All-nil}
 use Rattle.std.proofs.lemmas.List.Sums.{sum_by-append}
 use Rattle.core_syntax.specs.declared.behaviour.Behaviour.{Behaviour}
-use Rattle.core_syntax.specs.declared.builder.TheConstants.{NODE_LIMIT}
 use Rattle.core_syntax.specs.declared.function.Function.{Function}
 use Rattle.core_syntax.specs.declared.node.Node.{Node}
 use Rattle.core_syntax.specs.declared.node.Node.TheVariants.{Main}
 use Rattle.core_syntax.specs.declared.node_id.NodeId.{NodeId}
 use Rattle.core_syntax.specs.declared.row.Row.{Row}
 use Rattle.core_syntax.specs.declared.step.Step.{Step}
-use Rattle.core_syntax.specs.Limit.{counts, counted}
+use Rattle.core_syntax.specs.Limit.{counts, counted, node_limit}
 use Rattle.core_syntax.specs.Table.{node_at, steps_of, main_row, finished, global_count}
 use Rattle.core_syntax.specs.WellFormed.{IsBelow, ChildrenBelow, ChildrenFirst, IsBuilt, IsTurn, IsTurnAt, FunctionsBelow, BehavioursBelow, CanFinish, IsWellFormed}
 use Rattle.core_syntax.proofs.Appends.{slice_get-append_left, slice_get-push, slice_get-push_cases}
@@ -34,14 +33,14 @@ ChildrenFirst-push nodes row first below k found is =
 pub counted-push : (nodes : List Row) (row : Row) → counted (nodes ++ row ∷ []) ≡ counted nodes + counted (row ∷ [])
 counted-push nodes row = sum_by-append _ nodes (row ∷ [])
 
-pub IsBuilt-push : (nodes all : List Row) (row : Row) (count more : ℕ) → all ≡ nodes ++ row ∷ [] → IsBuilt nodes count → count ≢ NODE_LIMIT → more ≡ from_bool (counts row.node) → ChildrenBelow (length nodes) row.node → IsBuilt all (count + more)
+pub IsBuilt-push : (nodes all : List Row) (row : Row) (count more : ℕ) → all ≡ nodes ++ row ∷ [] → IsBuilt nodes count → count ≢ node_limit → more ≡ from_bool (counts row.node) → ChildrenBelow (length nodes) row.node → IsBuilt all (count + more)
 IsBuilt-push nodes all row count more e built room is below = let P : List Row → Type 0 = λ l. IsBuilt l (count + more) in subst P (sym e) (record {
   children_first = ChildrenFirst-push nodes row built.children_first below;
   counts = let s = counted-push nodes row in grind (arith, s, built.counts);
   within = on (counts row.node) is;
 })
   where
-    on : (b : Bool) → more ≡ from_bool b → count + more ≤ NODE_LIMIT
+    on : (b : Bool) → more ≡ from_bool b → count + more ≤ node_limit
     on true is = let w = built.within in omega arith
     on false is = let w = built.within in omega arith
 
@@ -73,7 +72,7 @@ pub global_count-finished : (nodes : List Row) (steps : List Step) (functions : 
 global_count-finished nodes steps functions written behaviours = ap (λ node. count_by (λ step. step.binds) (steps_of node)) (node_at-main nodes steps)
 
 -- what is finished is well formed
-pub finished-well_formed : (nodes : List Row) (steps : List Step) (functions : List Function) (written : ℕ) (behaviours : List Behaviour) → ChildrenFirst nodes → counted nodes ≤ NODE_LIMIT → CanFinish nodes steps functions written behaviours → IsWellFormed (finished nodes steps functions written behaviours)
+pub finished-well_formed : (nodes : List Row) (steps : List Step) (functions : List Function) (written : ℕ) (behaviours : List Behaviour) → ChildrenFirst nodes → counted nodes ≤ node_limit → CanFinish nodes steps functions written behaviours → IsWellFormed (finished nodes steps functions written behaviours)
 finished-well_formed nodes steps functions written behaviours first within can = record {
   children_first = ChildrenFirst-push nodes (main_row steps) first (All-map (IsBelow (length nodes)) (λ step. step.node) steps can.steps_there);
   within = let e = counted-push_main nodes steps in omega arith;

@@ -1,8 +1,12 @@
--- How many nodes of a table count towards its limit.
+-- The limit of a table of nodes, and how many of its nodes count towards it.
 use Rattle.std.specs.Prelude.{ℕ, Bool, true, false, List, count_by}
 use Rattle.core_syntax.specs.declared.node.Node.{Node}
 use Rattle.core_syntax.specs.declared.node.Node.TheVariants.{Main}
 use Rattle.core_syntax.specs.declared.row.Row.{Row}
+
+-- the most nodes that count
+abbrev pub node_limit : ℕ
+node_limit = 1000000
 
 -- each node counts but main
 abbrev pub counts : Node → Bool

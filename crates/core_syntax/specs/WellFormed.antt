@@ -2,7 +2,6 @@
 use Rattle.std.specs.Prelude.{◌≡◌, ℕ, ◌+◌, ◌<◌, ◌≤◌, List, length, Some, All, IsSomeAnd}
 use Rattle.std.specs.List.{slice_get}
 use Rattle.core_syntax.specs.declared.behaviour.Behaviour.{Behaviour}
-use Rattle.core_syntax.specs.declared.builder.TheConstants.{NODE_LIMIT}
 use Rattle.core_syntax.specs.declared.function.Function.{Function}
 use Rattle.core_syntax.specs.declared.node.Node.{Node}
 use Rattle.core_syntax.specs.declared.node.Node.TheVariants.{Turn, Main}
@@ -10,7 +9,7 @@ use Rattle.core_syntax.specs.declared.node_id.NodeId.{NodeId}
 use Rattle.core_syntax.specs.declared.row.Row.{Row}
 use Rattle.core_syntax.specs.declared.step.Step.{Step}
 use Rattle.core_syntax.specs.Children.{children}
-use Rattle.core_syntax.specs.Limit.{counted}
+use Rattle.core_syntax.specs.Limit.{counted, node_limit}
 use Rattle.core_syntax.specs.Numbers.{functions_named, behaviours_named}
 use Rattle.core_syntax.specs.Table.{Table, node_at}
 
@@ -30,7 +29,7 @@ ChildrenFirst nodes = (k : ℕ) (row : Row) → slice_get nodes k ≡ Some row �
 pub record IsBuilt (nodes : List Row) (count : ℕ) : Type 0 where
   pub children_first : ChildrenFirst nodes
   pub counts : count ≡ counted nodes
-  pub within : count ≤ NODE_LIMIT
+  pub within : count ≤ node_limit
 
 -- each function that the node names is one of the first n, and so for behaviours
 abbrev pub FunctionsBelow : ℕ → Node → Type 0
@@ -64,7 +63,7 @@ pub record CanFinish (nodes : List Row) (steps : List Step) (functions : List Fu
 -- turn, and main is the last node
 pub record IsWellFormed (table : Table) : Type 0 where
   pub children_first : ChildrenFirst table.nodes
-  pub within : counted table.nodes ≤ NODE_LIMIT
+  pub within : counted table.nodes ≤ node_limit
   pub bodies_there : All (λ function. IsBelow (length table.nodes) function.body) table.functions
   pub turns_there : All (λ behaviour. IsTurnAt table.nodes behaviour.body) table.behaviours
   pub functions_there : All (λ row. FunctionsBelow (length table.functions) row.node) table.nodes

@@ -1,5 +1,5 @@
 ghost use Rattle.std.specs.Prelude.{◌≡◌, ◌↔◌, [], ◌∷◌, ◌++◌, length, IfOk, OnErr};
-ghost use Rattle.core_syntax.specs.Limit.{counted};
+ghost use Rattle.core_syntax.specs.Limit.{counted, node_limit};
 ghost use Rattle.core_syntax.specs.Table.{finished};
 ghost use Rattle.core_syntax.specs.WellFormed.{ChildrenBelow, CanFinish};
 
@@ -9,10 +9,11 @@ use crate::function::Functions;
 use crate::node::Node;
 use crate::node_id::NodeId;
 use crate::program::Program;
-use crate::row::{Row, next_id, push_row};
+use crate::row::{Row, next_id};
 use crate::step::Steps;
 use std::alloc::{AllocError, Global};
 use std::marker::Model;
+use value_core::lists::add;
 use value_core::{Place, Seq};
 
 /// The most nodes that a table holds. `Main` doesn't count.
@@ -54,7 +55,7 @@ impl Builder {
         requires { ChildrenBelow (length self.old) node }
         ensures pushed { IfOk result (λ id. self.new ≡ self.old ++ record { node = node; at = at } ∷ []) }
         ensures id { IfOk result (λ id. id.index ≡ length self.old) }
-        ensures too_many { (result ≡ Err BuildNo.TooManyNodes) ↔ (counted self.old ≡ NODE_LIMIT) }
+        ensures too_many { (result ≡ Err BuildNo.TooManyNodes) ↔ (counted self.old ≡ node_limit) }
         ensures refused { OnErr result (self.new ≡ self.old) }
     {
         if self.counted == NODE_LIMIT {
@@ -62,7 +63,7 @@ impl Builder {
         }
         let id = next_id(&self.rows)?;
         let more = u32::from(node.counts());
-        push_row(&mut self.rows, Row { node, at })?;
+        add(&mut self.rows, Row { node, at })?;
         self.counted += more;
         Ok(id)
     }

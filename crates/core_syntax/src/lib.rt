@@ -7,11 +7,10 @@ mod builder;
 mod function;
 mod node;
 mod node_id;
+mod number;
 mod program;
 mod row;
 mod step;
-#[cfg(test)]
-mod tests;
 
 pub use behaviour::{Behaviour, Behaviours};
 pub use build_no::BuildNo;
@@ -19,5 +18,6 @@ pub use builder::{Builder, NODE_LIMIT};
 pub use function::{Function, Functions};
 pub use node::{Locals, Node};
 pub use node_id::{NodeId, NodeIds};
+pub use number::{as_number, sum_of};
 pub use program::Program;
 pub use step::{Step, Steps};

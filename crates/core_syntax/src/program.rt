@@ -1,7 +1,6 @@
 ghost use Rattle.std.specs.Prelude.{◌≡◌, ◌<◌, ◌≤◌, [], ◌∷◌, ◌++◌, length, count_by, Some, IfOk, OnOk, OnErr};
 ghost use Rattle.std.specs.List.{slice_get};
-ghost use Rattle.core_syntax.specs.declared.builder.TheConstants.{NODE_LIMIT};
-ghost use Rattle.core_syntax.specs.Limit.{counted};
+ghost use Rattle.core_syntax.specs.Limit.{counted, node_limit};
 ghost use Rattle.core_syntax.specs.Table.{finished, global_count, main_row as main_row_of, node_at, place_at};
 ghost use Rattle.core_syntax.specs.WellFormed.{BehavioursBelow, CanFinish, ChildrenBelow, ChildrenFirst, FunctionsBelow, IsBelow, IsTurnAt, IsWellFormed};
 
@@ -9,10 +8,12 @@ use crate::behaviour::{Behaviour, Behaviours};
 use crate::function::{Function, Functions};
 use crate::node::Node;
 use crate::node_id::NodeId;
-use crate::row::{Row, as_number, next_id, push_row};
+use crate::number::as_number;
+use crate::row::{Row, next_id};
 use crate::step::Steps;
 use std::alloc::AllocError;
 use std::marker::Model;
+use value_core::lists::add;
 use value_core::{Place, Seq};
 
 /// A program: its nodes with their places, its functions and behaviours, and its main. Children stand before parents,
@@ -52,7 +53,7 @@ impl Program {
         behaviours: Behaviours,
     ) -> Result<Self, AllocError>
         requires children_first { ChildrenFirst rows }
-        requires within { counted rows ≤ NODE_LIMIT }
+        requires within { counted rows ≤ node_limit }
         requires can_finish { CanFinish rows steps functions written behaviours }
         ensures { IfOk result (λ program. program ≡ finished rows steps functions written behaviours) }
     {
@@ -60,7 +61,7 @@ impl Program {
         let behaviour_count = as_number(behaviours.items().len())?;
         let global_count = binding_count(&steps)?;
         let row = main_row(steps);
-        push_row(&mut rows, row)?;
+        add(&mut rows, row)?;
         Ok(Program {
             rows,
             functions,

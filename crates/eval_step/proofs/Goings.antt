@@ -15,7 +15,7 @@ use Rattle.core_syntax.specs.Table.{Table, node_at, steps_of}
 use Rattle.core_syntax.specs.WellFormed.{IsBelow, ChildrenBelow}
 use Rattle.serial_model.specs.Eval.{then_go}
 use Rattle.serial_model.specs.Operation.{arguments}
-use Rattle.serial_model.proofs.Agree.{all_at}
+use Rattle.serial_model.proofs.evaluation.Agree.{all_at}
 use Rattle.eval_step.specs.declared.control.Control.TheVariants as control
 use Rattle.eval_step.specs.declared.item.Item.{Item}
 use Rattle.eval_step.specs.declared.item.Item.TheVariants as item

@@ -1,4 +1,5 @@
 pub mod Comings
+pub mod Crossing
 pub mod Goings
 pub mod Machines
 pub mod Nodes

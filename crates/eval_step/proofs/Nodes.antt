@@ -12,7 +12,7 @@ use Rattle.core_syntax.specs.declared.node_id.NodeId.{NodeId}
 use Rattle.core_syntax.specs.declared.step.Step.{Step}
 use Rattle.core_syntax.specs.Table.{Table, node_at}
 use Rattle.serial_model.specs.declared.answer.Answer.{Answer}
-use Rattle.serial_model.specs.Eval.{Out, Evals, then_go, level, by_arguments, transaction, in_turn, begin_at, run_steps, turn}
+use Rattle.serial_model.specs.Eval.{Out, Evals, then_go, level, by_arguments, dosync, in_turn, begin_at, run_steps, turn}
 use Rattle.eval_step.specs.declared.context.Context.{Context}
 use Rattle.eval_step.specs.declared.control.Control.{Control}
 use Rattle.eval_step.specs.declared.control.Control.TheVariants as control
@@ -86,7 +86,7 @@ module _ (table : Table) (inside : Bool) (frame : List Value) (stack : List Item
       comes_to_node table inside _ frame stack items body below (λ fuel answers.
       enters_node r.at fuel answers r.found
       ∙ ap (λ n. then_go (level table inside (run table inside) frame r.at n fuel answers) (resume table inside frame stack)) is
-      ∙ ap (λ b. then_go (transaction table b (run table inside) frame r.at body fuel answers) (resume table inside frame stack)) within)
+      ∙ ap (λ b. then_go (dosync table b (run table inside) frame r.at body fuel answers) (resume table inside frame stack)) within)
 
   -- a node whose level is its arguments and its operation
   pub enters_others : (new : Context) (stands : Control)
@@ -109,7 +109,7 @@ pub level-outside : (table : Table) (inside : Bool) (below : Evals) (frame : Lis
     → level table inside below frame at which fuel answers ≡ by_arguments table below frame at which fuel answers
 level-outside table inside below frame which body at fuel answers is out =
     ap (λ n. level table inside below frame at n fuel answers) is
-    ∙ ap (λ b. transaction table b below frame at body fuel answers) out
+    ∙ ap (λ b. dosync table b below frame at body fuel answers) out
     ∙ ap (λ n. by_arguments table below frame at n fuel answers) (sym is)
 
 -- a node with arguments and an operation

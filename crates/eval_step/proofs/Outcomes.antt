@@ -7,10 +7,10 @@ use Rattle.value_core.specs.Place.{Spot}
 use Rattle.value_core.specs.declared.value.Value.{Value}
 use Rattle.value_core.specs.declared.value.Value.TheOpen as one
 use Rattle.value_core.specs.declared.value.Value.TheViews.{out-Value}
-use Rattle.value_ops.specs.Apply.{apply_of, limited}
-use Rattle.value_ops.specs.Parts.{paired, put_rule}
-use Rattle.value_ops.specs.Words.{takes_of}
-use Rattle.value_ops.specs.declared.op_fault.OpFault.{OpFault}
+use Rattle.value_core.specs.primitives.Apply.{apply_of, limited}
+use Rattle.value_core.specs.primitives.Parts.{paired, put_rule}
+use Rattle.value_core.specs.primitives.Words.{takes_of}
+use Rattle.value_core.specs.declared.op_fault.OpFault.{OpFault}
 use Rattle.value_core.specs.declared.op.Op.TheVariants as op
 use Rattle.core_syntax.specs.declared.function.Function.{Function}
 use Rattle.core_syntax.specs.declared.node.Node.{Node}
@@ -21,7 +21,7 @@ use Rattle.core_syntax.specs.WellFormed.{FunctionsBelow}
 use Rattle.serial_model.specs.declared.answer.Answer.{Answer}
 use Rattle.serial_model.specs.declared.request.Request.{Request}
 use Rattle.serial_model.specs.Eval.{then_go, come, call}
-use Rattle.serial_model.specs.Operation.{Outcome, Calls, outcome_of, some_future, with_ref, with_actor, with_future, of_one, of_two, of_first, deref_outcome, ref_set_outcome, join_outcome, send_outcome, sealed}
+use Rattle.serial_model.specs.Operation.{Action, Calls, action_of, some_future, with_ref, with_actor, with_future, of_one, of_two, of_first, deref_outcome, ref_set_outcome, join_outcome, send_outcome, sealed}
 use Rattle.eval_step.specs.declared.context.Context.{Context}
 use Rattle.eval_step.specs.declared.control.Control.{Control}
 use Rattle.eval_step.specs.declared.item.Item.{Item}
@@ -32,7 +32,7 @@ use Rattle.eval_step.specs.Walk.{ItemIn}
 
 module _ (table : Table) (frame : List Value) (stack : List Item) (items : All (ItemIn (length table.nodes)) stack) (id : NodeId) (which : Node) (at : Spot) (found : slice_get table.nodes id.index ≡ Some (record { node = which; at = at })) (values : List Value) where
   -- the operation is that of the node
-  came : (inside : Bool) (meant : Outcome) (fuel : ℕ) (answers : List Answer) → meant ≡ finish frame which values
+  came : (inside : Bool) (meant : Action) (fuel : ℕ) (answers : List Answer) → meant ≡ finish frame which values
       → then_go (operated table (run table inside) frame (slice_get table.nodes id.index) values fuel answers) (resume table inside frame stack)
       ≡ then_go (come table (run table inside) at meant fuel answers) (resume table inside frame stack)
   came inside meant fuel answers is =
@@ -55,45 +55,45 @@ module _ (table : Table) (frame : List Value) (stack : List Item) (items : All (
 
 -- ---- a node calls only a function that it names
 -- a function that is called is one of the first n
-abbrev pub CalledBelow : ℕ → Outcome → Type 0
+abbrev pub CalledBelow : ℕ → Action → Type 0
 CalledBelow n (Calls number frame) = number < n
 CalledBelow n _ = Unit {0}
 
-never_outcome : (n : ℕ) (r : Result Value OpFault) → CalledBelow n (outcome_of r)
+never_outcome : (n : ℕ) (r : Result Value OpFault) → CalledBelow n (action_of r)
 never_outcome n (Ok v) = tt
 never_outcome n (Err fault) = tt
 
-never_chosen : (n : ℕ) (b : Bool) (left right : Outcome) → CalledBelow n left → CalledBelow n right → CalledBelow n (if b then left else right)
+never_chosen : (n : ℕ) (b : Bool) (left right : Action) → CalledBelow n left → CalledBelow n right → CalledBelow n (if b then left else right)
 never_chosen n true left right l r = l
 never_chosen n false left right l r = r
 
 never_sealed : (n : ℕ) (values : List Value) (asked : Request) → CalledBelow n (sealed values asked)
 never_sealed n values asked = never_chosen n (some_future values) _ _ tt tt
 
-never_one : (n : ℕ) (form : Value → Outcome) → ((v : Value) → CalledBelow n (form v)) → (values : List Value) → CalledBelow n (of_one form values)
+never_one : (n : ℕ) (form : Value → Action) → ((v : Value) → CalledBelow n (form v)) → (values : List Value) → CalledBelow n (of_one form values)
 never_one n form each [] = tt
 never_one n form each (v ∷ []) = each v
 never_one n form each (v ∷ w ∷ values) = tt
 
-never_two : (n : ℕ) (form : Value → Value → Outcome) → ((v w : Value) → CalledBelow n (form v w)) → (values : List Value) → CalledBelow n (of_two form values)
+never_two : (n : ℕ) (form : Value → Value → Action) → ((v w : Value) → CalledBelow n (form v w)) → (values : List Value) → CalledBelow n (of_two form values)
 never_two n form each [] = tt
 never_two n form each (v ∷ []) = tt
 never_two n form each (v ∷ w ∷ []) = each v w
 never_two n form each (v ∷ w ∷ u ∷ values) = tt
 
-never_first : (n : ℕ) (form : Value → List Value → Outcome) → ((v : Value) (more : List Value) → CalledBelow n (form v more)) → (values : List Value) → CalledBelow n (of_first form values)
+never_first : (n : ℕ) (form : Value → List Value → Action) → ((v : Value) (more : List Value) → CalledBelow n (form v more)) → (values : List Value) → CalledBelow n (of_first form values)
 never_first n form each [] = tt
 never_first n form each (v ∷ more) = each v more
 
-never_ref : (n : ℕ) (v : one.Value-F Value) (act : List ℕ → Outcome) → ((name : List ℕ) → CalledBelow n (act name)) → CalledBelow n (with_ref v act)
+never_ref : (n : ℕ) (v : one.Value-F Value) (act : List ℕ → Action) → ((name : List ℕ) → CalledBelow n (act name)) → CalledBelow n (with_ref v act)
 never_ref n (one.Ref name) act each = each name
 never_ref n _ act each = tt
 
-never_actor : (n : ℕ) (v : one.Value-F Value) (act : List ℕ → Outcome) → ((name : List ℕ) → CalledBelow n (act name)) → CalledBelow n (with_actor v act)
+never_actor : (n : ℕ) (v : one.Value-F Value) (act : List ℕ → Action) → ((name : List ℕ) → CalledBelow n (act name)) → CalledBelow n (with_actor v act)
 never_actor n (one.Actor name) act each = each name
 never_actor n _ act each = tt
 
-never_future : (n : ℕ) (v : one.Value-F Value) (act : List ℕ → Outcome) → ((name : List ℕ) → CalledBelow n (act name)) → CalledBelow n (with_future v act)
+never_future : (n : ℕ) (v : one.Value-F Value) (act : List ℕ → Action) → ((name : List ℕ) → CalledBelow n (act name)) → CalledBelow n (with_future v act)
 never_future n (one.Future name) act each = each name
 never_future n _ act each = tt
 

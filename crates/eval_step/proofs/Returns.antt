@@ -4,7 +4,7 @@ use Rattle.std.specs.Prelude.{All, if◌then◌else◌}
 use Rattle.std.specs.List.{slice_get}
 use Rattle.std.proofs.lemmas.List.Elements.{All-nil}
 use Rattle.value_core.specs.declared.value.Value.{Value}
-use Rattle.value_ops.specs.Kinds.{is_false}
+use Rattle.value_core.specs.primitives.Kinds.{is_false}
 use Rattle.core_syntax.specs.declared.node_id.NodeId.{NodeId}
 use Rattle.core_syntax.specs.Table.{Table, node_at}
 use Rattle.serial_model.specs.declared.answer.Answer.{Answer}

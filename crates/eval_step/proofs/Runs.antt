@@ -9,7 +9,7 @@ use Rattle.core_syntax.specs.Table.{Table}
 use Rattle.serial_model.specs.declared.answer.Answer.{Answer}
 use Rattle.serial_model.specs.declared.halt.Halt.TheVariants as halt
 use Rattle.serial_model.specs.Eval.{Stop, level, enter, unguarded, eval, begin_at, end_of, next}
-use Rattle.serial_model.proofs.Bounds.{Agree, eval-alike, enter-alike, begin_at-alike}
+use Rattle.serial_model.proofs.evaluation.Bounds.{Agree, eval-alike, enter-alike, begin_at-alike}
 use Rattle.eval_step.specs.Resume.{run}
 
 -- it agrees with each bound, up to that much fuel

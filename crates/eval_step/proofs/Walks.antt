@@ -9,7 +9,7 @@ use Rattle.core_syntax.specs.Table.{Table}
 use Rattle.serial_model.specs.declared.answer.Answer.{Answer}
 use Rattle.serial_model.specs.declared.halt.Halt.TheVariants as halt
 use Rattle.serial_model.specs.Eval.{enter, unguarded, eval, Evals}
-use Rattle.serial_model.proofs.Bounds.{enter-alike}
+use Rattle.serial_model.proofs.evaluation.Bounds.{enter-alike}
 use Rattle.eval_step.specs.declared.context.Context.{Context}
 use Rattle.eval_step.specs.declared.control.Control.{Control}
 use Rattle.eval_step.specs.declared.control.Control.TheVariants as control

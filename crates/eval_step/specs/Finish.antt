@@ -10,7 +10,7 @@ use Rattle.eval_step.specs.declared.outcome.Outcome.{Outcome}
 use Rattle.eval_step.specs.declared.outcome.Outcome.TheVariants as outcome
 
 -- the outcome that is meant
-abbrev pub meaning : Outcome → operation.Outcome
+abbrev pub meaning : Outcome → operation.Action
 meaning (outcome.Gives v) = operation.Gives v
 meaning (outcome.Faults code) = operation.Faults code
 meaning (outcome.Asks asked) = operation.Asks asked
@@ -24,7 +24,7 @@ hidden_of frame (node.Become number hidden written) = hidden_values frame hidden
 hidden_of frame other = []
 
 -- what the node does in its frame with the values of its hidden arguments and of the others
-unfoldable pub finish : List Value → Node → List Value → operation.Outcome
+unfoldable pub finish : List Value → Node → List Value → operation.Action
 finish frame (node.Call number hidden written) values = operation.Calls number values
 finish frame (node.Spawn number hidden written) values = sealed values (request.Spawn number values)
 finish frame (node.Become number hidden written) values = sealed values (request.Become number values)

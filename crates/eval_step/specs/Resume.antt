@@ -3,7 +3,7 @@ use Rattle.std.specs.Prelude.{ℕ, Bool, true, false, if◌then◌else◌, List,
 use Rattle.std.specs.List.{slice_get}
 use Rattle.value_core.specs.declared.value.Value.{Value}
 use Rattle.value_core.specs.declared.value.Value.TheVariants as value
-use Rattle.value_ops.specs.Kinds.{is_false}
+use Rattle.value_core.specs.primitives.Kinds.{is_false}
 use Rattle.core_syntax.specs.declared.node.Node.{Node}
 use Rattle.core_syntax.specs.declared.node.Node.TheVariants as node
 use Rattle.core_syntax.specs.declared.node_id.NodeId.{NodeId}

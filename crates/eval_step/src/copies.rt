@@ -6,11 +6,11 @@ use crate::control::Control;
 use crate::frame::Frame;
 use crate::item::Item;
 use crate::stack::Stack;
-use crate::values::copy_list;
 use crate::walk::Walk;
 use serial_model::{Answer, Halt, Request};
 use std::alloc::{AllocError, Global};
 use value_core::Seq;
+use value_core::lists::{add, copy_list};
 
 /// An equal walk. Of a failed one there is none.
 pub fn copy_walk(alloc: Global, walk: &Walk) -> Result<Walk, AllocError>
@@ -125,7 +125,7 @@ pub fn copy_answers(alloc: Global, answers: &[Answer]) -> Result<Seq<Answer>, Al
     let mut copied = Seq::new(alloc);
     copied.reserve(answers.len())?;
     for answer in answers {
-        push_answer(&mut copied, copy_answer(alloc, answer)?)?;
+        add(&mut copied, copy_answer(alloc, answer)?)?;
     }
     Ok(copied)
 }
@@ -148,12 +148,5 @@ pub fn keep_answer(
     ensures ok { OnOk result (answers.new ≡ answers.old ++ answer.now ∷ []) }
     ensures err { OnErr result (answers.new ≡ answers.old) }
 {
-    push_answer(answers, copy_answer(alloc, answer)?)
-}
-
-fn push_answer(answers: &mut Seq<Answer>, answer: Answer) -> Result<(), AllocError>
-    ensures ok { OnOk result (answers.new ≡ answers.old ++ answer ∷ []) }
-    ensures err { OnErr result (answers.new ≡ answers.old) }
-{
-    answers.push(answer).map_err(|_| AllocError)
+    add(answers, copy_answer(alloc, answer)?)
 }

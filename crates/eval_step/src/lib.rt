@@ -16,10 +16,7 @@ mod outcome;
 mod resuming;
 mod sameness;
 mod stack;
-#[cfg(test)]
-mod tests;
 mod values;
 mod walk;
 
 pub use machine::Machine;
-pub use values::copy_list;

@@ -9,12 +9,12 @@ use crate::copies::{copy_answers, copy_walk, keep_answer};
 use crate::frame::Frame;
 use crate::sameness::{same_answers, same_values};
 use crate::stack::Stack;
-use crate::values::copy_list;
 use crate::walk::Walk;
 use core_syntax::{NodeId, Program};
 use serial_model::{Answer, Halt};
 use std::alloc::{AllocError, Global};
 use std::marker::Model;
+use value_core::lists::copy_list;
 use value_core::{Seq, Values};
 
 /// An evaluation that goes on from request to request.

@@ -1,16 +1,17 @@
 ghost use Rattle.std.specs.Prelude.{◌≡◌, [], ◌∷◌, IfOk};
-ghost use Rattle.serial_model.specs.Operation.{applied as applied_of, mapped as mapped_of, outcome_of, sealed as sealed_of, deref_outcome, ref_set_outcome, join_outcome, of_first, of_one, of_two, send_outcome};
+ghost use Rattle.serial_model.specs.Operation.{applied as applied_of, mapped as mapped_of, action_of, sealed as sealed_of, deref_outcome, ref_set_outcome, join_outcome, of_first, of_one, of_two, send_outcome};
 ghost use Rattle.serial_model.specs.declared.request.Request.TheVariants as request;
 ghost use Rattle.value_core.specs.ToKey.{key_of as key_of_value};
-ghost use Rattle.value_ops.specs.Apply.{limited as limited_of};
+ghost use Rattle.value_core.specs.primitives.Apply.{limited as limited_of};
 ghost use Rattle.eval_step.specs.Finish.{finish, meaning};
 
 use crate::frame::Frame;
 use crate::outcome::Outcome;
-use crate::values::{copy_list, local, some_future};
+use crate::values::{local, some_future};
 use core_syntax::Node;
 use serial_model::Request;
 use std::alloc::{AllocError, Global};
+use value_core::lists::copy_list;
 use value_core::{Code, Dict, Key, KeyNo, Op, Value};
 use value_ops::{OpFault, apply, takes};
 use value_print::print_line;
@@ -104,7 +105,7 @@ fn key_of(alloc: Global, value: &Value) -> Result<Option<Key>, AllocError>
 
 // The value, where it is at most 200 deep.
 fn limited(value: Value) -> Outcome
-    ensures { meaning result ≡ outcome_of (limited_of (Ok value)) }
+    ensures { meaning result ≡ action_of (limited_of (Ok value)) }
 {
     if value.depth() <= 200 {
         Outcome::Gives(value)

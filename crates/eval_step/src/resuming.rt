@@ -1,5 +1,5 @@
 ghost use Rattle.std.specs.Prelude.{◌≡◌, length, if◌then◌else◌, IfOk, OnOk};
-ghost use Rattle.value_ops.specs.Kinds.{is_false as is_false_of};
+ghost use Rattle.value_core.specs.primitives.Kinds.{is_false as is_false_of};
 ghost use Rattle.eval_step.specs.Resume.{with_value};
 ghost use Rattle.eval_step.specs.Steps.{Resumes, Delivers};
 ghost use Rattle.eval_step.specs.Walk.{ItemIn, ItemsIn};

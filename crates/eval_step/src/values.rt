@@ -1,11 +1,11 @@
-ghost use Rattle.std.specs.Prelude.{◌≡◌, [], ◌∷◌, ◌++◌, IfOk};
-ghost use Rattle.value_ops.specs.Kinds.{is_false as is_false_of};
+ghost use Rattle.std.specs.Prelude.{◌≡◌, IfOk};
+ghost use Rattle.value_core.specs.primitives.Kinds.{is_false as is_false_of};
 ghost use Rattle.serial_model.specs.Operation.{local_value, hidden_values, some_future as some_future_of};
 
 use crate::frame::Frame;
 use core_syntax::Locals;
 use std::alloc::{AllocError, Global};
-use value_core::{Seq, Value, Values};
+use value_core::Value;
 
 /// Equal values.
 pub fn copy_values(alloc: Global, values: &[Value]) -> Result<Vec<Value>, AllocError>
@@ -16,24 +16,6 @@ pub fn copy_values(alloc: Global, values: &[Value]) -> Result<Vec<Value>, AllocE
         copied.push(value.copy(alloc)?)?;
     }
     Ok(copied)
-}
-
-/// The list of equal values.
-pub fn copy_list(alloc: Global, values: &[Value]) -> Result<Values, AllocError>
-    ensures { IfOk result (λ copied. copied ≡ values.now) }
-{
-    let mut copied = Seq::new(alloc);
-    copied.reserve(values.len())?;
-    for value in values {
-        push_value(&mut copied, value.copy(alloc)?)?;
-    }
-    Ok(copied)
-}
-
-fn push_value(values: &mut Values, value: Value) -> Result<(), AllocError>
-    ensures { IfOk result (λ _. values.new ≡ values.old ++ value ∷ []) }
-{
-    values.push(value).map_err(|_| AllocError)
 }
 
 /// The value at that place of a frame, and nil outside it.

@@ -8,7 +8,7 @@ mod runs;
 mod tests;
 mod workers;
 
-pub use list::Numbers;
+pub use list::{Listed, Numbers};
 pub use pairs::{Pair, append_by_four, append_by_two};
 pub use runs::{appended_by_four, appended_by_two};
-pub use workers::{Done, append, append_many};
+pub use workers::{Done, Worker, append, append_many};

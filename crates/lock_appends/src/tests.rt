@@ -5,7 +5,7 @@ use std::test::*;
 use std::thread::Threads;
 
 /// How often the number stands in the list.
-fn times_of(numbers: &Numbers, number: u32) -> usize {
+fn times_of(numbers: &Listed, number: u32) -> usize {
     numbers.items.iter().filter(|x| **x == number).count()
 }
 

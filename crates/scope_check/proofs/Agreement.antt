@@ -1,41 +1,12 @@
 -- Forms have one program at most, are refused in one way at most, and never both.
-use Rattle.std.proofs.Common.{◌≡◌, ℕ, List, Option, None, Some, refl, sym, ap, ◌∙◌}
+use Rattle.std.proofs.Common.{◌≡◌, List, ap}
 use Rattle.core_syntax.specs.Table.{Table}
 use Rattle.value_core.specs.Place.{Spot}
 use Rattle.sexpr_reader.specs.declared.form.Form.{Form}
+use Rattle.program_plan.proofs.Agreement.{one_some, some_or_none, planned_once, unplanned_once, planned_or_not}
 use Rattle.scope_check.specs.declared.error.ScopeKind.{ScopeKind}
 use Rattle.scope_check.specs.declared.refusal.Refusal.{Refusal}
-use Rattle.scope_check.specs.declared.top.Top.{Top}
-use Rattle.scope_check.specs.Check.{IsProgram, IsRefused, wrong, unplanned}
-use Rattle.scope_check.specs.Lowered.{first_past, program_of}
-use Rattle.scope_check.specs.Planned.{IsPlanned, IsUnplanned, early, too_many, Reached, early_in, layout_in}
-use Rattle.scope_check.proofs.Reached.{reached_once}
-
-one_some : {A : Type 0} (o : Option A) (x y : A) → o ≡ Some x → o ≡ Some y → x ≡ y
-one_some o x y a b = let same : Some x ≡ Some y = sym a ∙ b in cc
-
-some_or_none : {A : Type 0} (o : Option A) (x : A) → o ≡ Some x → o ≡ None → ⊥
-some_or_none o x a b = let same : Some x ≡ None = sym a ∙ b in absurd (cc)
-
-module _ (tops : List Top) (globals : ℕ) where
-  early_same : (xs ys : List (List ℕ)) → Reached tops globals xs → Reached tops globals ys → early_in tops xs ≡ early_in tops ys
-  early_same xs ys a b = ap (early_in tops) (reached_once _ _ _ _ a b)
-
-  past_same : (xs ys : List (List ℕ)) → Reached tops globals xs → Reached tops globals ys → first_past (layout_in tops xs) tops ≡ first_past (layout_in tops ys) tops
-  past_same xs ys a b = ap (λ lists. first_past (layout_in tops lists) tops) (reached_once _ _ _ _ a b)
-
-  planned_once : (table other : Table) → IsPlanned tops globals table → IsPlanned tops globals other → table ≡ other
-  planned_once table other p q = p.is ∙ ap (λ lists. program_of (layout_in tops lists) tops) (reached_once _ _ _ _ p.reached q.reached) ∙ sym q.is
-
-  unplanned_once : (kind other : ScopeKind) (at place : Spot) → IsUnplanned tops globals kind at → IsUnplanned tops globals other place → (kind ≡ other) × (at ≡ place)
-  unplanned_once kind other at place (early xs r e) (early ys s f) = (refl, one_some _ _ _ (sym (early_same xs ys r s) ∙ e) f)
-  unplanned_once kind other at place (early xs r e) (too_many ys s f q) = absurd (some_or_none _ _ (sym (early_same xs ys r s) ∙ e) f)
-  unplanned_once kind other at place (too_many xs r e p) (early ys s f) = absurd (some_or_none _ _ f (sym (early_same xs ys r s) ∙ e))
-  unplanned_once kind other at place (too_many xs r e p) (too_many ys s f q) = (refl, one_some _ _ _ (sym (past_same xs ys r s) ∙ p) q)
-
-  planned_or_not : (table : Table) (kind : ScopeKind) (at : Spot) → IsPlanned tops globals table → IsUnplanned tops globals kind at → ⊥
-  planned_or_not table kind at p (early xs r e) = some_or_none _ _ e (early_same xs p.lists r p.reached ∙ p.none_early)
-  planned_or_not table kind at p (too_many xs r e q) = some_or_none _ _ q (past_same xs p.lists r p.reached ∙ p.within)
+use Rattle.scope_check.specs.Check.{IsProgram, IsRefused, wrong, unplanned, kind_of}
 
 pub once : (forms : List Form) (table other : Table) → IsProgram forms table → IsProgram forms other → table ≡ other
 once forms table other p q = planned_once _ _ table other p.planned q.planned
@@ -47,8 +18,8 @@ pub refusal_once : (forms : List Form) (kind other : ScopeKind) (at place : Spot
 refusal_once forms kind other at place (wrong a) (wrong b) = kinds_same _ _ (one_some _ _ _ a b)
 refusal_once forms kind other at place (wrong a) (unplanned n u) = absurd (some_or_none _ _ a n)
 refusal_once forms kind other at place (unplanned n u) (wrong b) = absurd (some_or_none _ _ b n)
-refusal_once forms kind other at place (unplanned n u) (unplanned m v) = unplanned_once _ _ kind other at place u v
+refusal_once forms kind other at place (unplanned n u) (unplanned m v) = let same = unplanned_once _ _ _ _ at place u v in (ap kind_of same.0, same.1)
 
 pub never_both : (forms : List Form) (table : Table) (kind : ScopeKind) (at : Spot) → IsProgram forms table → IsRefused forms kind at → ⊥
 never_both forms table kind at p (wrong a) = some_or_none _ _ a p.nothing_wrong
-never_both forms table kind at p (unplanned n u) = planned_or_not _ _ table kind at p.planned u
+never_both forms table kind at p (unplanned n u) = planned_or_not _ _ table _ at p.planned u

@@ -8,10 +8,10 @@ use Rattle.std.specs.Prelude.{All, Contains}
 use Rattle.std.specs.List.{slice_get}
 use Rattle.std.proofs.lemmas.Cmp.{ranked}
 use Rattle.std.proofs.lemmas.List.Elements.{All-contains}
-use Rattle.scope_check.specs.declared.uses.Uses.{Uses}
-use Rattle.scope_check.specs.Plan.{rising}
-use Rattle.scope_check.specs.Reach.{AreReached, direct, through}
-use Rattle.scope_check.proofs.Members.{none_in, in_cons, in_head, in_tail}
+use Rattle.program_plan.specs.declared.uses.Uses.{Uses}
+use Rattle.program_plan.specs.Plan.{rising}
+use Rattle.program_plan.specs.Reach.{AreReached, direct, through}
+use Rattle.program_plan.proofs.Members.{none_in, in_cons, in_head, in_tail}
 use Rattle.scope_check.proofs.Setting.{Setting, Covers}
 
 -- what is put into a list in order is there with all that was

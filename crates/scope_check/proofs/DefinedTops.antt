@@ -13,16 +13,16 @@ use Rattle.scope_check.specs.declared.definition.Definition.{Definition}
 use Rattle.scope_check.specs.declared.definition.What.{What}
 use Rattle.scope_check.specs.declared.definition.What.TheVariants as what
 use Rattle.scope_check.specs.declared.refusal.Refusal.{Refusal}
-use Rattle.scope_check.specs.declared.top.Top.{Top}
-use Rattle.scope_check.specs.declared.top.TopKind.{TopKind}
-use Rattle.scope_check.specs.declared.top.TopKind.TheVariants as top
+use Rattle.program_plan.specs.declared.top.Top.{Top}
+use Rattle.program_plan.specs.declared.top.TopKind.{TopKind}
+use Rattle.program_plan.specs.declared.top.TopKind.TheVariants as top
 use Rattle.scope_check.specs.Declaring.{nothing, taken, twice, with_function, with_behaviour, with_global, declare_shape, declare, declare_all}
 use Rattle.scope_check.specs.First.{first_from, first_of, sooner}
 use Rattle.scope_check.specs.Names.{defined}
 use Rattle.scope_check.specs.Shapes.{Shape, Function, Behaviour, Global, Value, Malformed, shape_of}
 use Rattle.scope_check.specs.Tops.{shaped_top, top_of, tops_of, functions_behind}
 use Rattle.scope_check.proofs.FineForms.{no_first, no_rest}
-use Rattle.scope_check.proofs.Taken.{kind_params, kind_states, params_of, states_of}
+use Rattle.program_plan.proofs.Taken.{kind_params, kind_states, params_of, states_of}
 
 abbrev pub kind_globals : TopKind → ℕ
 kind_globals (top.Global value) = 1

@@ -5,15 +5,15 @@ use Rattle.std.proofs.lemmas.List.{map-append}
 use Rattle.std.proofs.lemmas.List.Elements.{All-nil}
 use Rattle.core_syntax.specs.declared.node_id.NodeId.{NodeId}
 use Rattle.core_syntax.specs.Fits.{HaveSizes}
-use Rattle.scope_check.specs.declared.expr.Expr.{Expr}
-use Rattle.scope_check.specs.declared.layout.Hidden.{Hidden}
+use Rattle.program_plan.specs.declared.expr.Expr.{Expr}
+use Rattle.program_plan.specs.declared.layout.Hidden.{Hidden}
 use Rattle.scope_check.specs.declared.stand.Target.{Target}
-use Rattle.scope_check.specs.declared.survey.LoopSurvey.{LoopSurvey}
-use Rattle.scope_check.specs.declared.survey.Survey.{Survey}
-use Rattle.scope_check.specs.Emitted.{Emitting, emitted}
-use Rattle.scope_check.specs.Frame.{frame_of}
-use Rattle.scope_check.specs.Made.{gathered}
-use Rattle.scope_check.specs.Survey.{nothing, both, all_of, surveyed}
+use Rattle.program_plan.specs.declared.survey.LoopSurvey.{LoopSurvey}
+use Rattle.program_plan.specs.declared.survey.Survey.{Survey}
+use Rattle.program_plan.specs.Emitted.{Emitting, emitted}
+use Rattle.program_plan.specs.Frame.{frame_of}
+use Rattle.program_plan.specs.Made.{gathered}
+use Rattle.program_plan.specs.Survey.{nothing, both, all_of, surveyed}
 use Rattle.scope_check.proofs.Parting.{enough_first, enough_rest, enough_deeper, named_both, Numbered-append}
 use Rattle.scope_check.proofs.Setting.{Setting, Entry, Numbered, Enough, Named, size_in}
 use Rattle.scope_check.proofs.Sized.{Sized, HasSize, HaveSizes-more, HaveSizes-append, sized_followed, sized_nothing, sized_where}

@@ -5,26 +5,26 @@ use Rattle.std.proofs.lemmas.Bool.{and_from}
 use Rattle.std.proofs.lemmas.List.{length-map}
 use Rattle.std.proofs.lemmas.List.Elements.{All-nil}
 use Rattle.value_core.specs.Place.{Spot}
-use Rattle.value_ops.specs.Words.{takes_of}
+use Rattle.value_core.specs.primitives.Words.{takes_of}
 use Rattle.core_syntax.specs.declared.node_id.NodeId.{NodeId}
 use Rattle.core_syntax.specs.Children.{children}
 use Rattle.core_syntax.specs.Fits.{HaveSizes, all_below, child_sizes, fits, function_takes, state_takes}
-use Rattle.scope_check.specs.declared.expr.Expr.{Expr}
-use Rattle.scope_check.specs.declared.expr.ExprKind.TheVariants as expr
-use Rattle.scope_check.specs.declared.head.Head.{Head}
-use Rattle.scope_check.specs.declared.head.Head.TheVariants as head
-use Rattle.scope_check.specs.declared.layout.Hidden.{Hidden}
+use Rattle.program_plan.specs.declared.expr.Expr.{Expr}
+use Rattle.program_plan.specs.declared.expr.ExprKind.TheVariants as expr
+use Rattle.program_plan.specs.declared.head.Head.{Head}
+use Rattle.program_plan.specs.declared.head.Head.TheVariants as head
+use Rattle.program_plan.specs.declared.layout.Hidden.{Hidden}
 use Rattle.scope_check.specs.declared.stand.Target.{Target}
-use Rattle.scope_check.specs.Applied.{applied, fixed, sent}
-use Rattle.scope_check.specs.Emitted.{emitted, each}
-use Rattle.scope_check.specs.Frame.{Frame, frame_of, hidden_places, hidden_count, global_place, local_place}
-use Rattle.scope_check.specs.Made.{node}
+use Rattle.program_plan.specs.Applied.{applied, fixed, sent}
+use Rattle.program_plan.specs.Emitted.{emitted, each}
+use Rattle.program_plan.specs.Frame.{Frame, frame_of, hidden_places, hidden_count, global_place, local_place}
+use Rattle.program_plan.specs.Made.{node}
 use Rattle.scope_check.specs.Resolved.{expr_at}
-use Rattle.scope_check.specs.Survey.{both, of_units}
-use Rattle.scope_check.specs.Uses.{head_units, function_unit}
+use Rattle.program_plan.specs.Survey.{both, of_units}
+use Rattle.program_plan.specs.Uses.{head_units, function_unit}
 use Rattle.scope_check.proofs.Fine.{Fine, FineParts, survey_of, entries_of, part_sizes, parts_numbered, parts_surveyed, parts_named, parts_sized}
 use Rattle.scope_check.proofs.FineLeaves.{fine_as}
-use Rattle.scope_check.proofs.Members.{none_in, in_head}
+use Rattle.program_plan.proofs.Members.{none_in, in_head}
 use Rattle.scope_check.proofs.Parting.{enough_first, enough_rest, named_both}
 use Rattle.scope_check.proofs.Seated.{hidden_fit}
 use Rattle.scope_check.proofs.Setting.{Setting, FunctionReady, BehaviourReady, TargetIs, TargetReady, Enough, size_in, function_hides, behaviour_hides}

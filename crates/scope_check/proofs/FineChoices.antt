@@ -6,16 +6,16 @@ use Rattle.value_core.specs.Place.{Spot}
 use Rattle.core_syntax.specs.declared.node.Node.TheVariants as node
 use Rattle.core_syntax.specs.declared.node_id.NodeId.{NodeId}
 use Rattle.core_syntax.proofs.Appends.{slice_get-append_left}
-use Rattle.scope_check.specs.declared.expr.Expr.{Expr}
-use Rattle.scope_check.specs.declared.expr.ExprKind.TheVariants as expr
-use Rattle.scope_check.specs.declared.layout.Hidden.{Hidden}
+use Rattle.program_plan.specs.declared.expr.Expr.{Expr}
+use Rattle.program_plan.specs.declared.expr.ExprKind.TheVariants as expr
+use Rattle.program_plan.specs.declared.layout.Hidden.{Hidden}
 use Rattle.scope_check.specs.declared.stand.Target.{Target}
-use Rattle.scope_check.specs.Emitted.{emitted, local, cond_of, and_of, or_of}
-use Rattle.scope_check.specs.Frame.{frame_of, local_place}
-use Rattle.scope_check.specs.Made as made
-use Rattle.scope_check.specs.Made.{Making, followed}
+use Rattle.program_plan.specs.Emitted.{emitted, local, cond_of, and_of, or_of}
+use Rattle.program_plan.specs.Frame.{frame_of, local_place}
+use Rattle.program_plan.specs.Made as made
+use Rattle.program_plan.specs.Made.{Making, followed}
 use Rattle.scope_check.specs.Resolved.{expr_at}
-use Rattle.scope_check.specs.Survey.{both, nothing, surveyed}
+use Rattle.program_plan.specs.Survey.{both, nothing, surveyed}
 use Rattle.scope_check.proofs.Fine.{Fine, FineParts, none, more, survey_of, entries_of, parts_numbered, parts_surveyed, parts_named}
 use Rattle.scope_check.proofs.FineApply.{level_step}
 use Rattle.scope_check.proofs.FineLeaves.{fine_as}

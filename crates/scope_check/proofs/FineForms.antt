@@ -4,8 +4,8 @@ use Rattle.std.specs.Prelude.{IfSome}
 use Rattle.value_core.specs.Place.{Spot}
 use Rattle.scope_check.specs.declared.definition.Definition.{Definition}
 use Rattle.scope_check.specs.declared.error.ScopeKind.{ScopeKind}
-use Rattle.scope_check.specs.declared.head.Head.{Head}
-use Rattle.scope_check.specs.declared.head.Head.TheVariants as head
+use Rattle.program_plan.specs.declared.head.Head.{Head}
+use Rattle.program_plan.specs.declared.head.Head.TheVariants as head
 use Rattle.scope_check.specs.declared.rule.Rule.{Rule}
 use Rattle.scope_check.specs.declared.rule.Rule.TheVariants as rule
 use Rattle.scope_check.specs.declared.stand.Target.{Target}

@@ -5,15 +5,15 @@ use Rattle.std.proofs.lemmas.Bool.{eqb-true}
 use Rattle.std.proofs.lemmas.List.{length-map}
 use Rattle.value_core.specs.Place.{Spot}
 use Rattle.value_core.specs.declared.op.Op.{Op}
-use Rattle.value_ops.specs.Words.{takes_of}
+use Rattle.value_core.specs.primitives.Words.{takes_of}
 use Rattle.scope_check.specs.declared.definition.Definition.{Definition}
 use Rattle.scope_check.specs.declared.definition.What.{What}
 use Rattle.scope_check.specs.declared.definition.What.TheVariants as what
 use Rattle.scope_check.specs.declared.error.ScopeKind.TheVariants.{Unknown, Arity, BadForm}
 use Rattle.scope_check.specs.declared.found.Found.{Found}
 use Rattle.scope_check.specs.declared.found.Found.TheVariants as found
-use Rattle.scope_check.specs.declared.head.Head.{Head}
-use Rattle.scope_check.specs.declared.head.Head.TheVariants as head
+use Rattle.program_plan.specs.declared.head.Head.{Head}
+use Rattle.program_plan.specs.declared.head.Head.TheVariants as head
 use Rattle.scope_check.specs.declared.rule.Rule.TheVariants as rule
 use Rattle.scope_check.specs.declared.special.Special.{Special}
 use Rattle.scope_check.specs.declared.special.Special.TheVariants as special

@@ -4,21 +4,21 @@ use Rattle.std.specs.Prelude.{ℤ, Bool, Option}
 use Rattle.std.proofs.lemmas.Bool.{lt-ltb}
 use Rattle.std.proofs.lemmas.List.Elements.{All-nil, All-cons}
 use Rattle.value_core.specs.Place.{Spot}
-use Rattle.value_ops.specs.Words.{takes_of}
+use Rattle.value_core.specs.primitives.Words.{takes_of}
 use Rattle.core_syntax.specs.declared.node.Node.{Node}
 use Rattle.core_syntax.specs.declared.node.Node.TheVariants as node
 use Rattle.core_syntax.specs.Fits.{NodeFits}
-use Rattle.scope_check.specs.declared.expr.Expr.{Expr}
-use Rattle.scope_check.specs.declared.expr.ExprKind.TheVariants as expr
+use Rattle.program_plan.specs.declared.expr.Expr.{Expr}
+use Rattle.program_plan.specs.declared.expr.ExprKind.TheVariants as expr
 use Rattle.scope_check.specs.declared.stand.Target.{Target}
-use Rattle.scope_check.specs.declared.survey.Survey.{Survey}
-use Rattle.scope_check.specs.Emitted.{Emitting, emitted, local}
-use Rattle.scope_check.specs.Frame.{frame_of, global_place, local_place}
-use Rattle.scope_check.specs.Made as made
+use Rattle.program_plan.specs.declared.survey.Survey.{Survey}
+use Rattle.program_plan.specs.Emitted.{Emitting, emitted, local}
+use Rattle.program_plan.specs.Frame.{frame_of, global_place, local_place}
+use Rattle.program_plan.specs.Made as made
 use Rattle.scope_check.specs.Resolved.{expr_at}
-use Rattle.scope_check.specs.Survey.{nothing, of_local, of_global, surveyed}
+use Rattle.program_plan.specs.Survey.{nothing, of_local, of_global, surveyed}
 use Rattle.scope_check.proofs.Fine.{Fine, FineOf, named_nothing}
-use Rattle.scope_check.proofs.Members.{in_head}
+use Rattle.program_plan.proofs.Members.{in_head}
 use Rattle.scope_check.proofs.Seated.{global_fits, local_fits}
 use Rattle.scope_check.proofs.Setting.{Setting, Enough, size_in}
 use Rattle.scope_check.proofs.Sized.{sized_node}

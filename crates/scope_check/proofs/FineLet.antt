@@ -6,22 +6,22 @@ use Rattle.value_core.specs.Place.{Spot}
 use Rattle.core_syntax.specs.declared.node.Node.TheVariants.{Nil, Let}
 use Rattle.core_syntax.specs.declared.node_id.NodeId.{NodeId}
 use Rattle.core_syntax.specs.Fits.{HaveSizes, growing}
-use Rattle.scope_check.specs.declared.expr.Expr.{Expr}
-use Rattle.scope_check.specs.declared.expr.ExprKind.TheVariants as expr
-use Rattle.scope_check.specs.declared.layout.Hidden.{Hidden}
+use Rattle.program_plan.specs.declared.expr.Expr.{Expr}
+use Rattle.program_plan.specs.declared.expr.ExprKind.TheVariants as expr
+use Rattle.program_plan.specs.declared.layout.Hidden.{Hidden}
 use Rattle.scope_check.specs.declared.stand.Target.{Target}
-use Rattle.scope_check.specs.Emitted.{Emitting, emitted, each, let_of, by_last}
-use Rattle.scope_check.specs.Frame.{frame_of}
-use Rattle.scope_check.specs.Made.{Making, node, followed}
+use Rattle.program_plan.specs.Emitted.{Emitting, emitted, each, let_of, by_last}
+use Rattle.program_plan.specs.Frame.{frame_of}
+use Rattle.program_plan.specs.Made.{Making, node, followed}
 use Rattle.scope_check.specs.Resolved.{expr_at}
-use Rattle.scope_check.specs.Survey.{both, surveyed}
-use Rattle.scope_check.proofs.Each.{by_last-push, map-push}
+use Rattle.program_plan.specs.Survey.{both, surveyed}
+use Rattle.program_plan.proofs.Each.{by_last-push, map-push}
 use Rattle.scope_check.proofs.Fine.{Fine, FineParts, survey_of, inside_of, entries_of, part_sizes, parts_numbered, parts_surveyed, parts_named, parts_sized}
 use Rattle.scope_check.proofs.FineLeaves.{fine_as}
 use Rattle.scope_check.proofs.Parting.{enough_first, enough_rest, enough_deeper, named_both, Numbered-append}
 use Rattle.scope_check.proofs.Setting.{Setting, Enough, size_in}
 use Rattle.scope_check.proofs.Sized.{Sized, HasSize, HaveSizes-more, sized_node, sized_followed, sized_then, sized_where}
-use Rattle.scope_check.proofs.Surveys.{both_assoc, both_nothing}
+use Rattle.program_plan.proofs.Surveys.{both_assoc, both_nothing}
 use Rattle.scope_check.proofs.Unfolded.{surveyed_let, emitted_let}
 
 -- the step to a part for which one more local is bound

@@ -11,27 +11,26 @@ use Rattle.core_syntax.specs.declared.node.Node.TheVariants as node
 use Rattle.core_syntax.specs.declared.node_id.NodeId.{NodeId}
 use Rattle.core_syntax.specs.Fits.{HaveSizes, function_takes, all_below}
 use Rattle.core_syntax.proofs.Appends.{slice_get-push}
-use Rattle.scope_check.specs.declared.begun.Begun.{Begun}
-use Rattle.scope_check.specs.declared.expr.Expr.{Expr}
-use Rattle.scope_check.specs.declared.expr.ExprKind.TheVariants as expr
-use Rattle.scope_check.specs.declared.expr.Looping.{Looping}
-use Rattle.scope_check.specs.declared.layout.Hidden.{Hidden}
+use Rattle.program_plan.specs.declared.expr.Expr.{Expr}
+use Rattle.program_plan.specs.declared.expr.ExprKind.TheVariants as expr
+use Rattle.program_plan.specs.declared.expr.Looping.{Looping}
+use Rattle.program_plan.specs.declared.layout.Hidden.{Hidden}
 use Rattle.scope_check.specs.declared.stand.Target.{Target}
-use Rattle.scope_check.specs.declared.survey.LoopSurvey.{LoopSurvey}
-use Rattle.scope_check.specs.declared.survey.Survey.{Survey}
-use Rattle.scope_check.specs.Emitted.{Emitting, emitted, each, local, loop_of, loop_end, loop_function, begun_of}
-use Rattle.scope_check.specs.Frame.{frame_of, hidden_places, hidden_count, local_place}
-use Rattle.scope_check.specs.Made as made
-use Rattle.scope_check.specs.Made.{Making, followed, gathered, in_loop}
+use Rattle.program_plan.specs.declared.survey.LoopSurvey.{LoopSurvey}
+use Rattle.program_plan.specs.declared.survey.Survey.{Survey}
+use Rattle.program_plan.specs.Emitted.{Begun, Emitting, emitted, each, local, loop_of, loop_end, loop_function, begun_of}
+use Rattle.program_plan.specs.Frame.{frame_of, hidden_places, hidden_count, local_place}
+use Rattle.program_plan.specs.Made as made
+use Rattle.program_plan.specs.Made.{Making, followed, gathered, in_loop}
 use Rattle.scope_check.specs.Resolved.{expr_at}
-use Rattle.scope_check.specs.Survey.{nothing, all_of, of_loop, of_loop_parts, own_survey, hidden_levels, surveyed}
-use Rattle.scope_check.specs.Uses.{function_unit}
-use Rattle.scope_check.proofs.Each.{map-push}
+use Rattle.program_plan.specs.Survey.{nothing, all_of, of_loop, of_loop_parts, own_survey, hidden_levels, surveyed}
+use Rattle.program_plan.specs.Uses.{function_unit}
+use Rattle.program_plan.proofs.Each.{map-push}
 use Rattle.scope_check.proofs.Fine.{Fine, FineParts, survey_of, inside_of, entries_of, part_sizes, parts_numbered, parts_surveyed, parts_named, parts_sized}
 use Rattle.scope_check.proofs.FineApply.{counted}
 use Rattle.scope_check.proofs.FineLeaves.{fine_as}
 use Rattle.scope_check.proofs.FineLet.{bind_step, last_made, let_sizes}
-use Rattle.scope_check.proofs.Members.{none_in, in_cons, in_head, in_tail}
+use Rattle.program_plan.proofs.Members.{none_in, in_cons, in_head, in_tail}
 use Rattle.scope_check.proofs.Parting.{All_first, All_rest, Numbered-append}
 use Rattle.scope_check.proofs.Seated.{local_fits, hidden_fit}
 use Rattle.scope_check.proofs.Setting.{Setting, Entry, Ready, Enough, Named, size_in, function_hides}

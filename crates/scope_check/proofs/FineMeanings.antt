@@ -10,11 +10,11 @@ use Rattle.scope_check.specs.declared.definition.Definition.{Definition}
 use Rattle.scope_check.specs.declared.definition.What.{What}
 use Rattle.scope_check.specs.declared.definition.What.TheVariants as what
 use Rattle.scope_check.specs.declared.error.ScopeKind.TheVariants.{Unknown, BadForm}
-use Rattle.scope_check.specs.declared.expr.ExprKind.{ExprKind}
-use Rattle.scope_check.specs.declared.expr.ExprKind.TheVariants as expr
+use Rattle.program_plan.specs.declared.expr.ExprKind.{ExprKind}
+use Rattle.program_plan.specs.declared.expr.ExprKind.TheVariants as expr
 use Rattle.scope_check.specs.declared.found.Found.{Found}
 use Rattle.scope_check.specs.declared.found.Found.TheVariants as found
-use Rattle.scope_check.specs.declared.head.Head.TheVariants as head
+use Rattle.program_plan.specs.declared.head.Head.TheVariants as head
 use Rattle.scope_check.specs.declared.rule.Rule.TheVariants as rule
 use Rattle.scope_check.specs.Names.{defined, made_name}
 use Rattle.scope_check.specs.Parts.{applied}

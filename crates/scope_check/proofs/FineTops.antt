@@ -1,13 +1,13 @@
 -- Top-level forms come to fine expressions.
-use Rattle.std.proofs.Common.{◌≡◌, ◌∙◌, ℕ, suc, ◌+◌, List, [], ◌∷◌, ◌++◌, length, Option, None, Some, refl, ap, subst, length-append}
+use Rattle.std.proofs.Common.{◌≡◌, ◌∙◌, ℕ, suc, ◌+◌, List, [], ◌∷◌, ◌++◌, length, None, Some, refl, ap, subst, length-append}
 use Rattle.std.proofs.lemmas.List.{length-map}
 use Rattle.value_core.specs.Place.{Spot}
 use Rattle.sugar.specs.declared.core_form.Core.{Core}
 use Rattle.scope_check.specs.declared.definition.Definition.{Definition}
 use Rattle.scope_check.specs.declared.definition.What.{What}
-use Rattle.scope_check.specs.declared.top.Top.{Top}
-use Rattle.scope_check.specs.declared.top.TopKind.{TopKind}
-use Rattle.scope_check.specs.declared.top.TopKind.TheVariants as top
+use Rattle.program_plan.specs.declared.top.Top.{Top}
+use Rattle.program_plan.specs.declared.top.TopKind.{TopKind}
+use Rattle.program_plan.specs.declared.top.TopKind.TheVariants as top
 use Rattle.scope_check.specs.Heads.{bound_name, checked_name}
 use Rattle.scope_check.specs.Names.{defined}
 use Rattle.scope_check.specs.Parts.{body}

@@ -1,11 +1,11 @@
 -- Every program that forms have fits: its nodes have frames in which each of them fits.
 use Rattle.std.proofs.Common.{◌≡◌, ◌∙◌, ℕ, zero, suc, ◌+◌, ◌<◌, ◌↔◌, List, [], ◌∷◌, ◌++◌, length, map, get_or, None, Some, refl, sym, ap, subst, arith, length-append}
-use Rattle.std.specs.Prelude.{All, Contains, IfSome, IfOk, Result, Ok, Err}
+use Rattle.std.specs.Prelude.{All, Contains, IfSome}
 use Rattle.std.specs.List.{AllZip, slice_get}
 use Rattle.std.specs.Option.{option_map}
 use Rattle.std.proofs.lemmas.List.Elements.{All-append, All-weaker}
 use Rattle.std.proofs.lemmas.Option.{none-some, same_Some, slice_get-map, slice_get_within, slice_get-get_or}
-use Rattle.value_ops.specs.Words.{takes_of}
+use Rattle.value_core.specs.primitives.Words.{takes_of}
 use Rattle.core_syntax.specs.declared.behaviour.Behaviour.{Behaviour}
 use Rattle.core_syntax.specs.declared.row.Row.{Row}
 use Rattle.core_syntax.specs.declared.step.Step.{Step}
@@ -18,28 +18,27 @@ use Rattle.sugar.specs.Expansion.{expanded}
 use Rattle.scope_check.specs.declared.definition.Definition.{Definition}
 use Rattle.scope_check.specs.declared.definition.What.{What}
 use Rattle.scope_check.specs.declared.definition.What.TheVariants as what
-use Rattle.scope_check.specs.declared.layout.Hidden.{Hidden}
-use Rattle.scope_check.specs.declared.survey.LoopSurvey.{LoopSurvey}
-use Rattle.scope_check.specs.declared.top.Top.{Top}
-use Rattle.scope_check.specs.declared.top_survey.TopSurvey.{TopSurvey}
-use Rattle.scope_check.specs.declared.error.ScopeNo.{ScopeNo}
-use Rattle.scope_check.specs.Check.{IsProgram, declared_in, resolved_in, tops_in, globals_in, wrong_in}
-use Rattle.scope_check.specs.Frame.{hidden_at}
-use Rattle.scope_check.specs.Lowered.{Parts, no_parts, program_of, with_tops}
+use Rattle.program_plan.specs.declared.layout.Hidden.{Hidden}
+use Rattle.program_plan.specs.declared.survey.LoopSurvey.{LoopSurvey}
+use Rattle.program_plan.specs.declared.top.Top.{Top}
+use Rattle.program_plan.specs.declared.top_survey.TopSurvey.{TopSurvey}
+use Rattle.scope_check.specs.Check.{IsProgram, declared_in, resolved_in, tops_in, globals_in}
+use Rattle.program_plan.specs.Frame.{hidden_at}
+use Rattle.program_plan.specs.Lowered.{Parts, no_parts, program_of, with_tops}
 use Rattle.scope_check.specs.Names.{defined}
-use Rattle.scope_check.specs.Plan.{all_units, hidden_of}
-use Rattle.scope_check.specs.Planned.{IsPlanned, Reached, early_in, layout_in}
-use Rattle.scope_check.specs.TopSurvey.{behaviours_among, tops_surveyed}
+use Rattle.program_plan.specs.Plan.{all_units, hidden_of}
+use Rattle.program_plan.specs.Planned.{Reached, early_in, layout_in}
+use Rattle.program_plan.specs.TopSurvey.{behaviours_among, tops_surveyed}
 use Rattle.scope_check.proofs.Closed.{covered, in_rising}
 use Rattle.scope_check.proofs.DefinedTops.{IsAmong, file_agrees, defined_among, none_first}
 use Rattle.scope_check.proofs.Fine.{inside_of}
 use Rattle.scope_check.proofs.FineForms.{no_first, no_rest}
 use Rattle.scope_check.proofs.FineTops.{FineTops, tops_entries, tops_numbered, tops_fine}
-use Rattle.scope_check.proofs.Layouts.{function_hidden, loop_hidden, behaviour_hidden, behaviour_at, function_at, loop_at}
-use Rattle.scope_check.proofs.Places.{All-found}
+use Rattle.program_plan.proofs.Layouts.{function_hidden, loop_hidden, behaviour_hidden, behaviour_at, function_at, loop_at}
+use Rattle.program_plan.proofs.Places.{All-found}
 use Rattle.scope_check.proofs.Setting.{Setting, FunctionReady, BehaviourReady, WhatReady, Covers, Entry, Ready, Numbered, takes_in, function_hides}
 use Rattle.scope_check.proofs.Sized.{HasBody, HaveSizes-more, RowFits, rows_more, rows_append, bodies_more}
-use Rattle.scope_check.proofs.Taken.{params_of, states_of, function_taken, loop_taken, behaviour_held, functions_surveyed, behaviours_surveyed, behaviours_counted}
+use Rattle.program_plan.proofs.Taken.{params_of, states_of, function_taken, loop_taken, behaviour_held, functions_surveyed, behaviours_surveyed, behaviours_counted}
 use Rattle.scope_check.proofs.TopsEnough.{TopsKnown, tops_enough, loops_surveyed, loops_named}
 use Rattle.scope_check.proofs.TopsSized.{PartsFit, IsTurned, TopsEnough, parts_fit}
 
@@ -199,13 +198,3 @@ program_fits forms table program =
     let fine = tops_fine (w (tops_in forms) (globals_in forms) planned.lists planned.reached planned.none_early) declared.definitions ready cores 0 declared.functions (no_rest declared.refusals due.refusals right) in
     subst (λ t. IsFitting takes_of t) (sym planned.is)
     (is_fitting (tops_in forms) (globals_in forms) planned.lists planned.reached planned.none_early declared.functions due.loops agrees.functions fine)
-
--- what is planned for forms with which nothing is wrong fits
-pub planned_fits : (r : Result Table ScopeNo) (forms : List Form) (tops : List Top) (globals : ℕ) → tops ≡ tops_in forms → globals ≡ globals_in forms → wrong_in forms ≡ None
-    → IfOk r (IsPlanned tops globals) → IfOk r (IsFitting takes_of)
-planned_fits (Ok table) forms tops globals tops_are globals_are right planned =
-    program_fits forms table (record {
-      nothing_wrong = right;
-      planned = subst (λ g. IsPlanned (tops_in forms) g table) globals_are (subst (λ t. IsPlanned t globals table) tops_are planned);
-    })
-planned_fits (Err refusal) forms tops globals tops_are globals_are right planned = tt

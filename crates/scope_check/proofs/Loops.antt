@@ -1,5 +1,5 @@
 -- A loop: its own function, its bindings and its body.
-use Rattle.std.proofs.Common.{◌≡◌, ℕ, ◌+◌, ◌-◌, ◌%◌, ◌≤◌, ◌==◌, true, List, [], ◌∷◌, ◌++◌, length, map, take, drop, get_or, Option, Some, Result, Ok, Err, IfOk, refl, sym, ap, subst, ◌∙◌, arith, append_assoc, rules}
+use Rattle.std.proofs.Common.{◌≡◌, ℕ, ◌+◌, ◌-◌, ◌%◌, ◌≤◌, ◌==◌, true, List, [], ◌∷◌, ◌++◌, length, take, drop, get_or, Result, Ok, Err, IfOk, sym, ap, subst, ◌∙◌, arith, append_assoc, rules}
 use Rattle.std.proofs.Math.Seq.{drop-append_seam, take-append_seam, take-length}
 use Rattle.std.proofs.lemmas.Bool.Decides.{Decides-eqb}
 use Rattle.std.proofs.lemmas.List.{length-map}
@@ -7,16 +7,16 @@ use Rattle.value_core.specs.Place.{Spot}
 use Rattle.sugar.specs.declared.core_form.Core.{Core}
 use Rattle.sugar.specs.declared.core_form.CoreKind.{the_lemmas}
 use Rattle.sugar.specs.declared.core_form.CoreKind.TheVariants.{Vector}
-use Rattle.scope_check.specs.declared.expr.Expr.{Expr}
-use Rattle.scope_check.specs.declared.expr.ExprKind.TheVariants.{Loop}
+use Rattle.program_plan.specs.declared.expr.Expr.{Expr}
+use Rattle.program_plan.specs.declared.expr.ExprKind.TheVariants.{Loop}
 use Rattle.scope_check.specs.declared.lets.Begun.{Begun}
 use Rattle.scope_check.specs.declared.resolver.Resolver.{Resolver}
 use Rattle.scope_check.specs.declared.stand.Stand.{Stand}
-use Rattle.scope_check.specs.Heads.{bound, bindings_of, formed, looping, loop_of, loop_scope, loop_stand, loop_in, loop_with, loop_value}
+use Rattle.scope_check.specs.Heads.{bound, formed, looping, loop_of, loop_scope, loop_stand, loop_with, loop_value}
 use Rattle.scope_check.specs.Moves.{scope_in, Begins, Gives}
 use Rattle.scope_check.specs.Names.{levels_of}
 use Rattle.scope_check.specs.Parts.{body}
-use Rattle.scope_check.specs.Resolved.{Bound, Meaning, Resolved, expr_at}
+use Rattle.scope_check.specs.Resolved.{Bound, Meaning, expr_at}
 use Rattle.scope_check.specs.Scope.{Scope}
 use Rattle.scope_check.specs.Value.{meaning, meanings, vector_of}
 use Rattle.scope_check.proofs.Steps.{same_scope}

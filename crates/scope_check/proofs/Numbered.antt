@@ -3,13 +3,13 @@ use Rattle.std.proofs.Common.{◌≡◌, ◌∙◌, ℕ, suc, ◌+◌, Bool, tru
 use Rattle.std.specs.Prelude.{ℤ}
 use Rattle.value_core.specs.Place.{Spot}
 use Rattle.scope_check.specs.declared.error.ScopeKind.{ScopeKind}
-use Rattle.scope_check.specs.declared.expr.Expr.{Expr}
-use Rattle.scope_check.specs.declared.expr.ExprKind.{ExprKind}
-use Rattle.scope_check.specs.declared.expr.ExprKind.TheOpen as one
-use Rattle.scope_check.specs.declared.expr.ExprKind.TheVariants as expr
-use Rattle.scope_check.specs.declared.expr.Looping.{Looping}
-use Rattle.scope_check.specs.declared.head.Head.{Head}
-use Rattle.scope_check.specs.declared.head.Head.TheVariants as head
+use Rattle.program_plan.specs.declared.expr.Expr.{Expr}
+use Rattle.program_plan.specs.declared.expr.ExprKind.{ExprKind}
+use Rattle.program_plan.specs.declared.expr.ExprKind.TheOpen as one
+use Rattle.program_plan.specs.declared.expr.ExprKind.TheVariants as expr
+use Rattle.program_plan.specs.declared.expr.Looping.{Looping}
+use Rattle.program_plan.specs.declared.head.Head.{Head}
+use Rattle.program_plan.specs.declared.head.Head.TheVariants as head
 use Rattle.scope_check.specs.declared.refusal.Refusal.{Refusal}
 use Rattle.scope_check.specs.declared.rule.Rule.{Rule}
 use Rattle.scope_check.specs.declared.rule.Rule.TheVariants as rule
@@ -18,8 +18,8 @@ use Rattle.scope_check.specs.Parts.{each, made_of, applied, body, around, behind
 use Rattle.scope_check.specs.Resolved.{Resolved, Several, Bound, Bindings, Meaning, expr_at, resolved, failed}
 use Rattle.scope_check.specs.Scope.{Scope, with_stand}
 use Rattle.scope_check.specs.Tails.{part_stand}
-use Rattle.scope_check.proofs.Holding.{Follow, Follow-append}
-use Rattle.scope_check.proofs.LoopNumbers.{joined, of_loop, loop_numbers, numbers_of_kind, numbers_at, numbers_out}
+use Rattle.program_plan.proofs.Holding.{Follow, Follow-append}
+use Rattle.program_plan.proofs.LoopNumbers.{joined, of_loop, loop_numbers, numbers_of_kind, numbers_at, numbers_out}
 
 -- those of several expressions
 abbrev pub numbers_of_all : List Expr → List ℕ

@@ -1,11 +1,11 @@
 -- The primitive that has a word is the one that the table of words gives.
-use Rattle.std.proofs.Common.{◌≡◌, ◌≢◌, ℕ, Bool, true, false, List, [], ◌∷◌, Option, None, Some, MatchOption, refl, sym, ap, ◌∙◌}
+use Rattle.std.proofs.Common.{◌≡◌, ◌≢◌, ℕ, List, [], ◌∷◌, Option, None, Some, MatchOption, refl, sym, ap, ◌∙◌}
 use Rattle.std.specs.Str.{bytes_eq}
 use Rattle.std.proofs.lemmas.Bool.{false_from_ne_true}
 use Rattle.std.proofs.lemmas.Slice.Eq.{bytes_eq-Decides}
 use Rattle.value_core.specs.declared.op.Op.{Op}
 use Rattle.value_core.specs.declared.op.Op.TheVariants as op
-use Rattle.value_ops.specs.Words.{op_word}
+use Rattle.value_core.specs.primitives.Words.{op_word}
 use Rattle.scope_check.specs.Ops.{all_ops, first_op, op_of}
 
 pub op_of_word : (o : Op) → op_of (op_word o) ≡ Some o

@@ -2,13 +2,13 @@
 use Rattle.std.proofs.Common.{ℕ, ◌+◌, ◌<◌, ◌≤◌, List, [], ◌∷◌, ◌++◌, sym, subst, arith}
 use Rattle.std.specs.Prelude.{All, Option}
 use Rattle.std.proofs.lemmas.List.Elements.{All-append, All-cons, All-head, All-tail, All-nil, Contains-append_left, Contains-append_right}
-use Rattle.scope_check.specs.declared.layout.Hidden.{Hidden}
+use Rattle.program_plan.specs.declared.layout.Hidden.{Hidden}
 use Rattle.scope_check.specs.declared.stand.Target.{Target}
-use Rattle.scope_check.specs.declared.survey.LoopSurvey.{LoopSurvey}
-use Rattle.scope_check.specs.declared.survey.Survey.{Survey}
-use Rattle.scope_check.specs.declared.uses.Uses.{Uses}
-use Rattle.scope_check.specs.Survey.{both}
-use Rattle.scope_check.specs.Uses.{both_uses}
+use Rattle.program_plan.specs.declared.survey.LoopSurvey.{LoopSurvey}
+use Rattle.program_plan.specs.declared.survey.Survey.{Survey}
+use Rattle.program_plan.specs.declared.uses.Uses.{Uses}
+use Rattle.program_plan.specs.Survey.{both}
+use Rattle.program_plan.specs.Uses.{both_uses}
 use Rattle.scope_check.proofs.Setting.{Setting, Covers, Entry, Ready, Numbered, Enough, Named}
 
 pub All_first : {X : Type 0} (P : X → Type 0) (xs ys : List X) → All P (xs ++ ys) → All P xs

@@ -6,19 +6,19 @@ use Rattle.core_syntax.specs.declared.node_id.NodeId.{NodeId}
 use Rattle.core_syntax.specs.Table.{Table}
 use Rattle.sexpr_reader.specs.declared.form.Form.{Form}
 use Rattle.sugar.specs.Expansion.{expanded}
-use Rattle.scope_check.specs.declared.layout.Layout.{Layout}
-use Rattle.scope_check.specs.declared.top.Top.{Top}
-use Rattle.scope_check.specs.declared.top.TopKind.{TopKind}
-use Rattle.scope_check.specs.declared.top.TopKind.TheVariants.{Global, Value, Function as Defined, Behaviour as Reacts}
+use Rattle.program_plan.specs.declared.layout.Layout.{Layout}
+use Rattle.program_plan.specs.declared.top.Top.{Top}
+use Rattle.program_plan.specs.declared.top.TopKind.{TopKind}
+use Rattle.program_plan.specs.declared.top.TopKind.TheVariants.{Global, Value, Function as Defined, Behaviour as Reacts}
 use Rattle.scope_check.specs.Check.{IsProgram, declared_in, resolved_in, tops_in}
 use Rattle.scope_check.specs.Declaring.{nothing}
-use Rattle.scope_check.specs.Lowered.{Parts, no_parts, with_root, with_top, with_tops, program_of}
-use Rattle.scope_check.specs.Made.{Draft}
-use Rattle.scope_check.specs.Planned.{layout_in}
+use Rattle.program_plan.specs.Lowered.{Parts, no_parts, with_root, with_top, with_tops, program_of}
+use Rattle.program_plan.specs.Made.{Draft}
+use Rattle.program_plan.specs.Planned.{layout_in}
 use Rattle.scope_check.specs.ReadBack.{MainStands, ReadsBack, ReadsTops, nothing_before}
 use Rattle.scope_check.specs.Tops.{functions_behind}
-use Rattle.scope_check.proofs.Grown.{later_loops, loops_with_all}
-use Rattle.scope_check.proofs.Holding.{Follow, HaveNumbers, numbers_behind}
+use Rattle.program_plan.proofs.Grown.{later_loops, loops_with_all}
+use Rattle.program_plan.proofs.Holding.{Follow, HaveNumbers, numbers_behind}
 use Rattle.scope_check.proofs.NumberedForms.{top_numbers, tops_numbered}
 use Rattle.scope_check.proofs.Numbered.{none_appended}
 use Rattle.scope_check.proofs.TopsRead.{main_there, tops_read}

@@ -6,10 +6,10 @@ use Rattle.std.proofs.lemmas.Bool.{lt-ltb, le-ltb, ltb-true, ltb-false, and_from
 use Rattle.std.proofs.lemmas.List.Folds.{list_all-append}
 use Rattle.std.proofs.lemmas.List.Sums.{sum_by-cons, count_by-le-length}
 use Rattle.core_syntax.specs.Fits.{all_below}
-use Rattle.scope_check.specs.declared.layout.Hidden.{Hidden}
-use Rattle.scope_check.specs.declared.layout.Layout.{Layout}
-use Rattle.scope_check.specs.Frame.{position_of, global_place, local_place, hidden_places, frame_of}
-use Rattle.scope_check.proofs.Members.{none_in, in_cons, in_head, in_tail}
+use Rattle.program_plan.specs.declared.layout.Hidden.{Hidden}
+use Rattle.program_plan.specs.declared.layout.Layout.{Layout}
+use Rattle.program_plan.specs.Frame.{position_of, global_place, local_place, hidden_places, frame_of}
+use Rattle.program_plan.proofs.Members.{none_in, in_cons, in_head, in_tail}
 use Rattle.scope_check.proofs.Setting.{size_in}
 
 below_cons : (n m : ℕ) (ms : List ℕ) → position_of n (m ∷ ms) ≡ cond (nat_lt m n) 1 0 + position_of n ms

@@ -4,15 +4,15 @@ use Rattle.core_syntax.specs.Fits.{function_takes, state_takes}
 use Rattle.core_syntax.specs.Table.{Table}
 use Rattle.scope_check.specs.declared.definition.What.{What}
 use Rattle.scope_check.specs.declared.definition.What.TheVariants as what
-use Rattle.scope_check.specs.declared.expr.Looping.{Looping}
-use Rattle.scope_check.specs.declared.layout.Hidden.{Hidden}
-use Rattle.scope_check.specs.declared.layout.Layout.{Layout}
+use Rattle.program_plan.specs.declared.expr.Looping.{Looping}
+use Rattle.program_plan.specs.declared.layout.Hidden.{Hidden}
+use Rattle.program_plan.specs.declared.layout.Layout.{Layout}
 use Rattle.scope_check.specs.declared.stand.Target.{Target}
-use Rattle.scope_check.specs.declared.survey.LoopSurvey.{LoopSurvey}
-use Rattle.scope_check.specs.declared.survey.Survey.{Survey}
-use Rattle.scope_check.specs.declared.uses.Uses.{Uses}
-use Rattle.scope_check.specs.Frame.{hidden_at, hidden_count}
-use Rattle.scope_check.specs.Uses.{function_unit}
+use Rattle.program_plan.specs.declared.survey.LoopSurvey.{LoopSurvey}
+use Rattle.program_plan.specs.declared.survey.Survey.{Survey}
+use Rattle.program_plan.specs.declared.uses.Uses.{Uses}
+use Rattle.program_plan.specs.Frame.{hidden_at, hidden_count}
+use Rattle.program_plan.specs.Uses.{function_unit}
 
 -- the table that is made, the hidden arguments in it, the globals that each unit reaches, and how many behaviours and
 -- globals there are

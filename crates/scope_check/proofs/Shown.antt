@@ -2,9 +2,8 @@
 use Rattle.std.proofs.Common.{◌≡◌, ℕ, List, Bor, refl, sym, ap, ◌∙◌}
 use Rattle.sugar.specs.declared.core_form.Core.{Core}
 use Rattle.scope_check.specs.declared.shape.Reaction.{Reaction as ReactionHere}
-use Rattle.scope_check.specs.declared.shape.Shape.{Shape as ShapeHere}
 use Rattle.scope_check.specs.declared.shape.Shape.TheVariants as here
-use Rattle.scope_check.specs.Shapes.{Shape, Function, Behaviour, Global, Value, Malformed, Reaction, Shows, reaction_now}
+use Rattle.scope_check.specs.Shapes.{Shape, Function, Behaviour, Global, Value, Malformed, Shows, reaction_now}
 
 pub shown_function : (s : Shape) (n : Bor (List ℕ)) (p b : Bor (List Core)) → Shows s (here.Function n p b) → s ≡ Function n.now p.now b.now
 shown_function (Function name parameters body) n p b shows = cc

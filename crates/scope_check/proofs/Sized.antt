@@ -5,7 +5,7 @@ use Rattle.std.specs.List.{AllZip, slice_get}
 use Rattle.std.proofs.lemmas.List.{map-append}
 use Rattle.std.proofs.lemmas.List.Elements.{All-append, All-cons, All-nil, All-weaker}
 use Rattle.value_core.specs.Place.{Spot}
-use Rattle.value_ops.specs.Words.{takes_of}
+use Rattle.value_core.specs.primitives.Words.{takes_of}
 use Rattle.core_syntax.specs.declared.function.Function.{Function}
 use Rattle.core_syntax.specs.declared.node.Node.{Node}
 use Rattle.core_syntax.specs.declared.node_id.NodeId.{NodeId}
@@ -13,7 +13,7 @@ use Rattle.core_syntax.specs.declared.row.Row.{Row}
 use Rattle.core_syntax.specs.Children.{children}
 use Rattle.core_syntax.specs.Fits.{HaveSizes, NodeFits, child_sizes}
 use Rattle.core_syntax.proofs.Appends.{slice_get-append_left, slice_get-push}
-use Rattle.scope_check.specs.Made.{Made, Making, node, nothing, followed, in_loop}
+use Rattle.program_plan.specs.Made.{Made, Making, node, nothing, followed, in_loop}
 use Rattle.scope_check.proofs.Setting.{Setting, Entry, takes_in}
 
 -- the node has a frame of that size

@@ -1,11 +1,11 @@
 -- One turn of the loops over parts and over bindings.
-use Rattle.std.proofs.Common.{◌≡◌, ℕ, suc, ◌+◌, ◌*◌, ◌/◌, ◌-◌, ◌<◌, ◌≤◌, Bool, ◌==◌, List, [], ◌∷◌, ◌++◌, length, map, take, drop, get_or, refl, sym, ap, ◌∙◌, arith, append_assoc, append-nil}
+use Rattle.std.proofs.Common.{◌≡◌, ℕ, suc, ◌+◌, ◌*◌, ◌/◌, ◌-◌, ◌<◌, ◌≤◌, ◌==◌, List, [], ◌∷◌, ◌++◌, length, take, drop, get_or, refl, sym, ap, ◌∙◌, arith, append_assoc, append-nil}
 use Rattle.std.proofs.Math.Seq.{drop-cons}
 use Rattle.std.proofs.lemmas.List.{take-append-le, length-take, length-drop, length-map}
 use Rattle.std.proofs.lemmas.Bool.{false_from_ne_true}
 use Rattle.std.proofs.lemmas.Bool.Decides.{Decides-eqb}
 use Rattle.sugar.specs.declared.core_form.Core.{Core}
-use Rattle.scope_check.specs.declared.expr.Expr.{Expr}
+use Rattle.program_plan.specs.declared.expr.Expr.{Expr}
 use Rattle.scope_check.specs.declared.resolver.Resolver.{Resolver}
 use Rattle.scope_check.specs.declared.rule.Rule.{Rule}
 use Rattle.scope_check.specs.declared.rule.Rule.TheVariants as rule
@@ -13,8 +13,8 @@ use Rattle.scope_check.specs.declared.stand.Stand.{Stand}
 use Rattle.scope_check.specs.Heads.{bound, bound_name, checked_name}
 use Rattle.scope_check.specs.Moves.{scope_in, Gives, Passes, BindsAll, BindsOne, NamesOne}
 use Rattle.scope_check.specs.Parts.{each, behind, is_none}
-use Rattle.scope_check.specs.Resolved.{Resolved, Several, Bound, Meaning}
-use Rattle.scope_check.specs.Scope.{Scope, inner, inside, binding, with_stand}
+use Rattle.scope_check.specs.Resolved.{Several, Bound, Meaning}
+use Rattle.scope_check.specs.Scope.{Scope, inner, inside, binding}
 use Rattle.scope_check.specs.Tails.{part_stand}
 use Rattle.scope_check.specs.Value.{meaning, meanings}
 use Rattle.scope_check.proofs.Remaining.{StillGives, StillBinds}

@@ -1,10 +1,9 @@
 -- One turn of the loops over parameters and over top-level forms.
-use Rattle.std.proofs.Common.{◌≡◌, ℕ, suc, ◌+◌, ◌<◌, List, [], ◌∷◌, ◌++◌, length, drop, get_or, refl, sym, ap, ◌∙◌, arith, append_assoc, append-nil}
-use Rattle.std.proofs.Math.Seq.{drop-cons}
+use Rattle.std.proofs.Common.{◌≡◌, ℕ, List, [], ◌∷◌, ◌++◌, refl, ap, ◌∙◌, append_assoc}
 use Rattle.sugar.specs.declared.core_form.Core.{Core}
 use Rattle.scope_check.specs.declared.resolver.Resolver.{Resolver}
 use Rattle.scope_check.specs.declared.stand.Stand.{Stand}
-use Rattle.scope_check.specs.declared.top.Top.{Top}
+use Rattle.program_plan.specs.declared.top.Top.{Top}
 use Rattle.scope_check.specs.Heads.{bound_name, checked_name}
 use Rattle.scope_check.specs.Moves.{scope_in, NamesOne, GivesTop}
 use Rattle.scope_check.specs.Resolved.{Bound, Meaning}

@@ -7,24 +7,24 @@ use Rattle.std.proofs.lemmas.List.{map-append}
 use Rattle.std.proofs.lemmas.List.Elements.{All-append, All-nil}
 use Rattle.std.proofs.lemmas.List.FromFn.{get_or-range_with_len, length-range_with_len}
 use Rattle.value_core.specs.Place.{Spot}
-use Rattle.scope_check.specs.declared.survey.LoopSurvey.{LoopSurvey}
-use Rattle.scope_check.specs.declared.top.Top.{Top}
-use Rattle.scope_check.specs.declared.top.TopKind.{TopKind}
-use Rattle.scope_check.specs.declared.top.TopKind.TheVariants as top
-use Rattle.scope_check.specs.declared.top_survey.FormSurvey.{FormSurvey}
-use Rattle.scope_check.specs.declared.uses.Uses.{Uses}
-use Rattle.scope_check.specs.Early.{IsEarly, is_early, first_early}
-use Rattle.scope_check.specs.Survey.{surveyed}
+use Rattle.program_plan.specs.declared.survey.LoopSurvey.{LoopSurvey}
+use Rattle.program_plan.specs.declared.top.Top.{Top}
+use Rattle.program_plan.specs.declared.top.TopKind.{TopKind}
+use Rattle.program_plan.specs.declared.top.TopKind.TheVariants as top
+use Rattle.program_plan.specs.declared.top_survey.FormSurvey.{FormSurvey}
+use Rattle.program_plan.specs.declared.uses.Uses.{Uses}
+use Rattle.program_plan.specs.Early.{IsEarly, is_early, first_early}
+use Rattle.program_plan.specs.Survey.{surveyed}
 use Rattle.scope_check.specs.Tops.{functions_behind}
-use Rattle.scope_check.specs.TopSurvey.{tops_from}
-use Rattle.scope_check.specs.Uses.{function_unit}
-use Rattle.scope_check.proofs.EarlyForms.{early_is}
+use Rattle.program_plan.specs.TopSurvey.{tops_from}
+use Rattle.program_plan.specs.Uses.{function_unit}
+use Rattle.program_plan.proofs.EarlyForms.{early_is}
 use Rattle.scope_check.proofs.Fine.{inside_of}
 use Rattle.scope_check.proofs.FineTops.{FineTop, FineTops, none, more, top_entries, tops_entries}
-use Rattle.scope_check.proofs.Members.{none_in}
+use Rattle.program_plan.proofs.Members.{none_in}
 use Rattle.scope_check.proofs.Parting.{All_first, All_rest}
 use Rattle.scope_check.proofs.Setting.{Setting, FunctionReady, BehaviourReady, Covers, Ready}
-use Rattle.scope_check.proofs.Taken.{params_of, states_of}
+use Rattle.program_plan.proofs.Taken.{params_of, states_of}
 use Rattle.scope_check.proofs.TopsSized.{TopEnough, TopsEnough, globals_behind, behaviours_behind}
 
 -- What is known of forms, where so many globals, functions and behaviours are before them: their functions and behaviours

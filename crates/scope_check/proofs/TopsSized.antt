@@ -19,16 +19,16 @@ use Rattle.core_syntax.specs.Fits.{HaveSizes, step_sizes}
 use Rattle.core_syntax.specs.Table.{node_at}
 use Rattle.core_syntax.proofs.Appends.{slice_get-push}
 use Rattle.core_syntax.proofs.Tables.{node_at-append}
-use Rattle.scope_check.specs.declared.layout.Hidden.{Hidden}
-use Rattle.scope_check.specs.declared.top.Top.{Top}
-use Rattle.scope_check.specs.declared.top.Reacting.{Reacting}
-use Rattle.scope_check.specs.declared.top.TopKind.{TopKind}
-use Rattle.scope_check.specs.declared.top.TopKind.TheVariants as top
-use Rattle.scope_check.specs.Emitted.{emitted, turn_of}
-use Rattle.scope_check.specs.Frame.{frame_of, hidden_count}
-use Rattle.scope_check.specs.Lowered.{Parts, no_parts, main_frame, with_step, with_top, with_tops}
-use Rattle.scope_check.specs.Made.{Draft, Making, node, followed, extended, answered}
-use Rattle.scope_check.specs.Survey.{surveyed}
+use Rattle.program_plan.specs.declared.layout.Hidden.{Hidden}
+use Rattle.program_plan.specs.declared.top.Top.{Top}
+use Rattle.program_plan.specs.declared.top.Reacting.{Reacting}
+use Rattle.program_plan.specs.declared.top.TopKind.{TopKind}
+use Rattle.program_plan.specs.declared.top.TopKind.TheVariants as top
+use Rattle.program_plan.specs.Emitted.{emitted, turn_of}
+use Rattle.program_plan.specs.Frame.{frame_of, hidden_count}
+use Rattle.program_plan.specs.Lowered.{Parts, no_parts, main_frame, with_step, with_top, with_tops}
+use Rattle.program_plan.specs.Made.{Draft, Making, node, followed, extended, answered}
+use Rattle.program_plan.specs.Survey.{surveyed}
 use Rattle.scope_check.specs.Tops.{functions_behind}
 use Rattle.scope_check.proofs.FineTops.{FineTop, FineTops, none, more, top_entries, tops_entries}
 use Rattle.scope_check.proofs.Setting.{Setting, Entry, Enough, takes_in, size_in, function_hides, behaviour_hides}

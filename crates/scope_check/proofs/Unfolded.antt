@@ -2,17 +2,17 @@
 use Rattle.std.proofs.Common.{◌≡◌, ℕ, Bool, List, map, rules}
 use Rattle.std.specs.Prelude.{ℤ}
 use Rattle.value_core.specs.Place.{Spot}
-use Rattle.scope_check.specs.declared.expr.Expr.{Expr}
-use Rattle.scope_check.specs.declared.expr.ExprKind.{the_lemmas}
-use Rattle.scope_check.specs.declared.expr.ExprKind.TheOpen as one
-use Rattle.scope_check.specs.declared.expr.ExprKind.TheVariants as expr
-use Rattle.scope_check.specs.declared.expr.Looping.{Looping}
-use Rattle.scope_check.specs.declared.head.Head.{Head}
-use Rattle.scope_check.specs.Emitted as made
-use Rattle.scope_check.specs.Emitted.{Emitting, emitted}
+use Rattle.program_plan.specs.declared.expr.Expr.{Expr}
+use Rattle.program_plan.specs.declared.expr.ExprKind.{the_lemmas}
+use Rattle.program_plan.specs.declared.expr.ExprKind.TheOpen as one
+use Rattle.program_plan.specs.declared.expr.ExprKind.TheVariants as expr
+use Rattle.program_plan.specs.declared.expr.Looping.{Looping}
+use Rattle.program_plan.specs.declared.head.Head.{Head}
+use Rattle.program_plan.specs.Emitted as made
+use Rattle.program_plan.specs.Emitted.{Emitting, emitted}
 use Rattle.scope_check.specs.Resolved.{expr_at}
-use Rattle.scope_check.specs.Survey as named
-use Rattle.scope_check.specs.Survey.{surveyed}
+use Rattle.program_plan.specs.Survey as named
+use Rattle.program_plan.specs.Survey.{surveyed}
 
 module _ (behaviours : ℕ) (at : Spot) where
   pub surveyed_nil : surveyed behaviours (expr_at at expr.Nil) ≡ named.nothing

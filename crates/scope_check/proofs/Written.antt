@@ -6,7 +6,7 @@ use Rattle.sugar.specs.declared.core_form.Core.{Core}
 use Rattle.scope_check.specs.declared.declared.Declared.{Declared}
 use Rattle.scope_check.specs.declared.definition.Definition.{Definition}
 use Rattle.scope_check.specs.declared.refusal.Refusal.{Refusal}
-use Rattle.scope_check.specs.declared.top.Top.{Top}
+use Rattle.program_plan.specs.declared.top.Top.{Top}
 use Rattle.scope_check.specs.Declaring.{taken, twice, with_function, with_behaviour, with_global, declare_shape, declare, declare_all}
 use Rattle.scope_check.specs.First.{first_from, first_of, sooner}
 use Rattle.scope_check.specs.Shapes.{Shape, Function, Behaviour, Global, Value, Malformed, shape_of}

@@ -4,16 +4,21 @@ use Rattle.value_core.specs.Place.{Spot}
 use Rattle.core_syntax.specs.Table.{Table}
 use Rattle.sexpr_reader.specs.declared.form.Form.{Form}
 use Rattle.sugar.specs.Expansion.{expanded}
+use Rattle.program_plan.specs.declared.error.PlanKind.{PlanKind}
+use Rattle.program_plan.specs.declared.error.PlanKind.TheVariants as plan
+use Rattle.program_plan.specs.declared.error.PlanNo.{PlanNo}
+use Rattle.program_plan.specs.declared.error.PlanNo.TheVariants as why
+use Rattle.program_plan.specs.declared.top.Top.{Top}
+use Rattle.program_plan.specs.Planned.{IsPlanned, IsUnplanned}
 use Rattle.scope_check.specs.declared.checking.Found.{Found}
 use Rattle.scope_check.specs.declared.declared.Declared.{Declared}
 use Rattle.scope_check.specs.declared.error.ScopeKind.{ScopeKind}
+use Rattle.scope_check.specs.declared.error.ScopeKind.TheVariants.{EarlyGlobal, TooManyNodes}
 use Rattle.scope_check.specs.declared.error.ScopeNo.{ScopeNo}
 use Rattle.scope_check.specs.declared.error.ScopeNo.TheVariants.{Memory, Refused}
 use Rattle.scope_check.specs.declared.refusal.Refusal.{Refusal}
-use Rattle.scope_check.specs.declared.top.Top.{Top}
 use Rattle.scope_check.specs.Declaring.{declare_all, nothing}
 use Rattle.scope_check.specs.First.{first_of}
-use Rattle.scope_check.specs.Planned.{IsPlanned, IsUnplanned}
 use Rattle.scope_check.specs.Resolved.{refusal}
 use Rattle.scope_check.specs.Tops.{TopsResolved, tops_of}
 
@@ -35,6 +40,16 @@ globals_in forms = (declared_in forms).globals
 abbrev pub wrong_in : List Form → Option Refusal
 wrong_in forms = first_of ((declared_in forms).refusals ++ (resolved_in forms).refusals)
 
+-- what is wrong with forms that are resolved, among all that can be wrong
+abbrev pub kind_of : PlanKind → ScopeKind
+kind_of plan.EarlyGlobal = EarlyGlobal
+kind_of plan.TooManyNodes = TooManyNodes
+
+-- why forms have no program, where what they come to has none
+abbrev pub scope_no : PlanNo → ScopeNo
+scope_no why.Memory = Memory
+scope_no (why.Refused kind at) = Refused (kind_of kind) at
+
 -- forms have a program where nothing is wrong with them and what they come to has one
 pub record IsProgram (forms : List Form) (table : Table) : Type 0 where
   pub nothing_wrong : wrong_in forms ≡ None
@@ -43,7 +58,7 @@ pub record IsProgram (forms : List Form) (table : Table) : Type 0 where
 -- else the refusal is what is wrong with them, and only where nothing is, that of what they come to
 pub data IsRefused (forms : List Form) : ScopeKind → Spot → Type 0 where
   wrong : {kind : ScopeKind} {at : Spot} → wrong_in forms ≡ Some (refusal kind at) → IsRefused forms kind at
-  unplanned : {kind : ScopeKind} {at : Spot} → wrong_in forms ≡ None → IsUnplanned (tops_in forms) (globals_in forms) kind at → IsRefused forms kind at
+  unplanned : {kind : PlanKind} {at : Spot} → wrong_in forms ≡ None → IsUnplanned (tops_in forms) (globals_in forms) kind at → IsRefused forms (kind_of kind) at
 
 -- the error is a refusal that is due for such a cause; want of memory is free
 abbrev pub RefusedAs : (ScopeKind → Spot → Type 0) → ScopeNo → Type 0

@@ -1,19 +1,10 @@
 -- The first of some refusals: that at the first place, and at one place the one with the lowest number.
-use Rattle.std.specs.Prelude.{◌≡◌, ℕ, List, [], ◌∷◌, Option, None, Some}
+use Rattle.std.specs.Prelude.{List, [], ◌∷◌, Option, None, Some}
 use Rattle.std.specs.declared.cmp.Ordering.{Ordering}
 use Rattle.std.specs.declared.cmp.Ordering.TheVariants.{Less}
 use Rattle.std.specs.Ordering.{nat_cmp, on, then_cmp}
-use Rattle.scope_check.specs.declared.error.ScopeKind.{ScopeKind}
-use Rattle.scope_check.specs.declared.error.ScopeKind.TheVariants.{Unknown, Twice, Arity, BadForm, EarlyGlobal, TooManyNodes}
 use Rattle.scope_check.specs.declared.refusal.Refusal.{Refusal}
-
-abbrev pub kind_number : ScopeKind → ℕ
-kind_number Unknown = 1
-kind_number Twice = 2
-kind_number Arity = 3
-kind_number BadForm = 4
-kind_number EarlyGlobal = 5
-kind_number TooManyNodes = 6
+use Rattle.scope_check.specs.Kinds.{kind_number}
 
 -- by line, then by column, then by number
 unfoldable pub refusal_cmp : Refusal → Refusal → Ordering

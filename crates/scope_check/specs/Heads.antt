@@ -1,17 +1,16 @@
 -- Lists: what the head makes of the arguments.
-use Rattle.std.specs.Prelude.{ℕ, ◌+◌, Bool, true, false, ◌==◌, ◌%◌, nat_le, List, [], ◌∷◌, ◌++◌, length, map, Option, None, Some}
+use Rattle.std.specs.Prelude.{ℕ, ◌+◌, Bool, true, false, ◌==◌, ◌%◌, nat_le, List, [], ◌∷◌, ◌++◌, length, Option, None, Some}
 use Rattle.value_core.specs.Place.{Spot}
 use Rattle.value_core.specs.declared.op.Op.{Op}
-use Rattle.value_ops.specs.Words.{takes_of}
+use Rattle.value_core.specs.primitives.Words.{takes_of}
 use Rattle.scope_check.specs.declared.definition.What.TheVariants as what
 use Rattle.scope_check.specs.declared.error.ScopeKind.TheVariants.{Unknown, Arity, BadForm}
-use Rattle.scope_check.specs.declared.expr.Looping.{Looping}
-use Rattle.scope_check.specs.declared.expr.ExprKind.TheVariants as expr
+use Rattle.program_plan.specs.declared.expr.Looping.{Looping}
+use Rattle.program_plan.specs.declared.expr.ExprKind.TheVariants as expr
 use Rattle.scope_check.specs.declared.found.Found.{Found}
 use Rattle.scope_check.specs.declared.found.Found.TheVariants as found
-use Rattle.scope_check.specs.declared.head.Head.{Head}
-use Rattle.scope_check.specs.declared.head.Head.TheVariants as head
-use Rattle.scope_check.specs.declared.rule.Rule.{Rule}
+use Rattle.program_plan.specs.declared.head.Head.{Head}
+use Rattle.program_plan.specs.declared.head.Head.TheVariants as head
 use Rattle.scope_check.specs.declared.rule.Rule.TheVariants as rule
 use Rattle.scope_check.specs.declared.special.Special.{Special}
 use Rattle.scope_check.specs.declared.special.Special.TheVariants as special
@@ -22,7 +21,7 @@ use Rattle.scope_check.specs.declared.start.Start.TheVariants as starts
 use Rattle.scope_check.specs.Names.{levels_of}
 use Rattle.scope_check.specs.Ops.{op_of}
 use Rattle.scope_check.specs.Parts.{each, made_of, applied, body, around}
-use Rattle.scope_check.specs.Resolved.{Resolved, Bound, Bindings, Meaning, expr_at, nil_at, resolved, refusal, failed}
+use Rattle.scope_check.specs.Resolved.{Resolved, Bound, Bindings, Meaning, expr_at, resolved, refusal, failed}
 use Rattle.scope_check.specs.Scope.{Scope, inside, binding, with_stand, find_in}
 use Rattle.scope_check.specs.Special.{special_of}
 

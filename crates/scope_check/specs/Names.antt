@@ -1,5 +1,5 @@
 -- Names: how core forms carry them, what they stand for at the top level, and which local is meant.
-use Rattle.std.specs.Prelude.{ℕ, suc, zero, if◌then◌else◌, List, [], ◌∷◌, ◌++◌, map, Option, None, Some, decimal, codes}
+use Rattle.std.specs.Prelude.{ℕ, suc, if◌then◌else◌, List, [], ◌∷◌, ◌++◌, map, Option, None, Some, decimal, codes}
 use Rattle.std.specs.Option.{unwrap_or}
 use Rattle.std.specs.Str.{bytes_eq}
 use Rattle.scope_check.specs.declared.definition.Definition.{Definition}

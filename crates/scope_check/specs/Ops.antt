@@ -3,7 +3,7 @@ use Rattle.std.specs.Prelude.{ℕ, if◌then◌else◌, List, [], ◌∷◌, Opt
 use Rattle.std.specs.Str.{bytes_eq}
 use Rattle.value_core.specs.declared.op.Op.{Op}
 use Rattle.value_core.specs.declared.op.Op.TheVariants as op
-use Rattle.value_ops.specs.Words.{op_word}
+use Rattle.value_core.specs.primitives.Words.{op_word}
 
 abbrev pub all_ops : List Op
 all_ops =

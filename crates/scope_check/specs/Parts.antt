@@ -1,14 +1,14 @@
 -- Forms side by side, and bodies.
-use Rattle.std.specs.Prelude.{ℕ, suc, Bool, true, false, ◌==◌, ◌&&◌, ◌%◌, nat_le, List, [], ◌∷◌, ◌++◌}
+use Rattle.std.specs.Prelude.{ℕ, suc, Bool, true, false, List, [], ◌∷◌}
 use Rattle.value_core.specs.Place.{Spot}
-use Rattle.scope_check.specs.declared.expr.Expr.{Expr}
-use Rattle.scope_check.specs.declared.expr.ExprKind.{ExprKind}
-use Rattle.scope_check.specs.declared.expr.ExprKind.TheVariants as expr
-use Rattle.scope_check.specs.declared.head.Head.{Head}
-use Rattle.scope_check.specs.declared.head.Head.TheVariants as head
+use Rattle.program_plan.specs.declared.expr.Expr.{Expr}
+use Rattle.program_plan.specs.declared.expr.ExprKind.{ExprKind}
+use Rattle.program_plan.specs.declared.expr.ExprKind.TheVariants as expr
+use Rattle.program_plan.specs.declared.head.Head.{Head}
+use Rattle.program_plan.specs.declared.head.Head.TheVariants as head
 use Rattle.scope_check.specs.declared.rule.Rule.{Rule}
 use Rattle.scope_check.specs.declared.rule.Rule.TheVariants as rule
-use Rattle.scope_check.specs.Resolved.{Resolved, Several, Meaning, expr_at, nil_at, none, joined, resolved}
+use Rattle.scope_check.specs.Resolved.{Resolved, Several, Meaning, expr_at, none, joined, resolved}
 use Rattle.scope_check.specs.Scope.{Scope, with_stand, binding}
 use Rattle.scope_check.specs.Tails.{part_stand}
 

@@ -7,17 +7,17 @@ use Rattle.core_syntax.specs.declared.node_id.NodeId.{NodeId}
 use Rattle.core_syntax.specs.declared.step.Step.{Step}
 use Rattle.core_syntax.specs.Table.{Table, node_at, steps_of}
 use Rattle.sexpr_reader.specs.declared.form.Form.{Form}
-use Rattle.scope_check.specs.declared.expr.Expr.{Expr}
-use Rattle.scope_check.specs.declared.layout.Hidden.{Hidden}
-use Rattle.scope_check.specs.declared.layout.Layout.{Layout}
-use Rattle.scope_check.specs.declared.top.Reacting.{Reacting}
-use Rattle.scope_check.specs.declared.top.Top.{Top}
-use Rattle.scope_check.specs.declared.top.TopKind.{TopKind}
-use Rattle.scope_check.specs.declared.top.TopKind.TheVariants.{Global, Value, Function, Behaviour}
+use Rattle.program_plan.specs.declared.expr.Expr.{Expr}
+use Rattle.program_plan.specs.declared.layout.Hidden.{Hidden}
+use Rattle.program_plan.specs.declared.layout.Layout.{Layout}
+use Rattle.program_plan.specs.declared.top.Reacting.{Reacting}
+use Rattle.program_plan.specs.declared.top.Top.{Top}
+use Rattle.program_plan.specs.declared.top.TopKind.{TopKind}
+use Rattle.program_plan.specs.declared.top.TopKind.TheVariants.{Global, Value, Function, Behaviour}
 use Rattle.scope_check.specs.Check.{tops_in, globals_in}
-use Rattle.scope_check.specs.Frame.{Frame, frame_of, hidden_at, hidden_count}
-use Rattle.scope_check.specs.Planned.{Reached, layout_in}
-use Rattle.scope_check.specs.Reads.{Reads, Stands}
+use Rattle.program_plan.specs.Frame.{Frame, frame_of, hidden_at, hidden_count}
+use Rattle.program_plan.specs.Planned.{Reached, layout_in}
+use Rattle.program_plan.specs.Reads.{Reads, Stands}
 
 -- how much of a program comes from the forms before
 pub record Before : Type 0 where

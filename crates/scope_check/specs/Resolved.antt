@@ -1,10 +1,10 @@
 -- What a core form comes to where it stands.
-use Rattle.std.specs.Prelude.{◌≡◌, ℕ, Bool, List, [], ◌∷◌, ◌++◌, Option, None, Some, Result, Ok, Err}
+use Rattle.std.specs.Prelude.{ℕ, Bool, List, [], ◌∷◌, ◌++◌, Option}
 use Rattle.value_core.specs.Place.{Spot}
 use Rattle.scope_check.specs.declared.error.ScopeKind.{ScopeKind}
-use Rattle.scope_check.specs.declared.expr.Expr.{Expr}
-use Rattle.scope_check.specs.declared.expr.ExprKind.{ExprKind}
-use Rattle.scope_check.specs.declared.expr.ExprKind.TheVariants as expr
+use Rattle.program_plan.specs.declared.expr.Expr.{Expr}
+use Rattle.program_plan.specs.declared.expr.ExprKind.{ExprKind}
+use Rattle.program_plan.specs.declared.expr.ExprKind.TheVariants as expr
 use Rattle.scope_check.specs.declared.refusal.Refusal.{Refusal}
 use Rattle.scope_check.specs.Scope.{Scope}
 

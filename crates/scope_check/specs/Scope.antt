@@ -1,12 +1,11 @@
 -- What is known where an expression stands.
-use Rattle.std.specs.Prelude.{ℕ, Bool, true, false, ◌||◌, List, [], ◌∷◌, ◌++◌, length, Option, None, Some, is_some}
+use Rattle.std.specs.Prelude.{ℕ, Bool, true, false, ◌||◌, List, ◌++◌, Option, None, Some, is_some}
 use Rattle.sugar.specs.Words.{is_form_word}
 use Rattle.scope_check.specs.declared.definition.Definition.{Definition}
 use Rattle.scope_check.specs.declared.definition.What.{What}
 use Rattle.scope_check.specs.declared.found.Found.{Found}
 use Rattle.scope_check.specs.declared.found.Found.TheVariants.{Local, Reserved, Defined, Nothing}
 use Rattle.scope_check.specs.declared.stand.Stand.{Stand}
-use Rattle.scope_check.specs.declared.stand.Target.{Target}
 use Rattle.scope_check.specs.Names.{defined, innermost}
 use Rattle.scope_check.specs.Ops.{op_of}
 

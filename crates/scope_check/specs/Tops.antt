@@ -6,9 +6,9 @@ use Rattle.scope_check.specs.declared.definition.Definition.{Definition}
 use Rattle.scope_check.specs.declared.error.ScopeKind.TheVariants.{BadForm}
 use Rattle.scope_check.specs.declared.refusal.Refusal.{Refusal}
 use Rattle.scope_check.specs.declared.stand.Stand.{Stand}
-use Rattle.scope_check.specs.declared.top.Top.{Top}
-use Rattle.scope_check.specs.declared.top.TopKind.{TopKind}
-use Rattle.scope_check.specs.declared.top.TopKind.TheVariants.{Global as global_kind, Value as value_kind, Function as function_kind, Behaviour as behaviour_kind}
+use Rattle.program_plan.specs.declared.top.Top.{Top}
+use Rattle.program_plan.specs.declared.top.TopKind.{TopKind}
+use Rattle.program_plan.specs.declared.top.TopKind.TheVariants.{Global as global_kind, Value as value_kind, Function as function_kind, Behaviour as behaviour_kind}
 use Rattle.scope_check.specs.Heads.{bound_name, checked_name}
 use Rattle.scope_check.specs.Parts.{body}
 use Rattle.scope_check.specs.Resolved.{Resolved, Bound, Meaning, nil_at, refusal}

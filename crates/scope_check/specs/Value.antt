@@ -1,5 +1,5 @@
 -- What each core form comes to.
-use Rattle.std.specs.Prelude.{ℕ, ◌==◌, ◌%◌, List, [], ◌∷◌, length, map, Option, None, Some}
+use Rattle.std.specs.Prelude.{ℕ, ◌==◌, ◌%◌, List, length, map, None, Some}
 use Rattle.value_core.specs.Place.{Spot}
 use Rattle.sugar.specs.declared.core_form.BadKind.{BadKind}
 use Rattle.sugar.specs.declared.core_form.BadKind.TheVariants as bad
@@ -9,11 +9,11 @@ use Rattle.sugar.specs.declared.core_form.CoreKind.TheFolds.{fold-Core}
 use Rattle.scope_check.specs.declared.definition.What.TheVariants as what
 use Rattle.scope_check.specs.declared.error.ScopeKind.{ScopeKind}
 use Rattle.scope_check.specs.declared.error.ScopeKind.TheVariants.{Unknown, Arity, BadForm}
-use Rattle.scope_check.specs.declared.expr.ExprKind.{ExprKind}
-use Rattle.scope_check.specs.declared.expr.ExprKind.TheVariants as expr
+use Rattle.program_plan.specs.declared.expr.ExprKind.{ExprKind}
+use Rattle.program_plan.specs.declared.expr.ExprKind.TheVariants as expr
 use Rattle.scope_check.specs.declared.found.Found.{Found}
 use Rattle.scope_check.specs.declared.found.Found.TheVariants as found
-use Rattle.scope_check.specs.declared.head.Head.TheVariants as head
+use Rattle.program_plan.specs.declared.head.Head.TheVariants as head
 use Rattle.scope_check.specs.declared.rule.Rule.TheVariants as rule
 use Rattle.scope_check.specs.Heads.{bindings_of, formed, list_value}
 use Rattle.scope_check.specs.Names.{made_name}

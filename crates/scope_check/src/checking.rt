@@ -1,22 +1,16 @@
 ghost use Rattle.std.specs.Prelude.{IfOk, IfErr};
 ghost use Rattle.core_syntax.specs.Fits.{IsFitting};
-ghost use Rattle.value_ops.specs.Words.{takes_of};
+ghost use Rattle.value_core.specs.primitives.Words.{takes_of};
 ghost use Rattle.scope_check.specs.Check.{IsFound, IsProgram, IsRefused, RefusedAs};
-ghost use Rattle.scope_check.specs.Planned.{IsPlanned, IsUnplanned};
 
 use crate::declared::{Declared, declare_all};
-use crate::early::first_early;
-use crate::error::{ScopeKind, ScopeNo, refused};
+use crate::error::{ScopeNo, refused, scope_no};
 use crate::first::first;
 use crate::locals::Locals;
-use crate::lower::lower;
-use crate::plan::{layout, units};
-use crate::reach::reached;
 use crate::refusal::Refusal;
 use crate::resolver::Resolver;
-use crate::top::TopForms;
-use crate::top_survey::survey_tops;
 use core_syntax::Program;
+use program_plan::{TopForms, plan};
 use sexpr_reader::Forms;
 use std::alloc::{AllocError, Global};
 use sugar::expand;
@@ -47,7 +41,10 @@ pub fn check(alloc: Global, forms: &Forms) -> Result<Program, ScopeNo>
     } = resolve(alloc, forms)?;
     match wrong {
         Some(refusal) => Err(refused(refusal.kind, refusal.at)),
-        None => plan(alloc, &tops, globals),
+        None => match plan(alloc, &tops, globals) {
+            Ok(program) => Ok(program),
+            Err(no) => Err(scope_no(no)),
+        },
     }
 }
 
@@ -76,20 +73,4 @@ fn resolve(alloc: Global, forms: &Forms) -> Result<Found, AllocError>
         globals,
         wrong,
     })
-}
-
-// The program of top-level forms with which nothing is wrong.
-#[tactic(auto, using(crate::proofs::Rising::layout_rises))]
-fn plan(alloc: Global, tops: &TopForms, globals: u32) -> Result<Program, ScopeNo>
-    ensures program { IfOk result (IsPlanned tops.now globals) }
-    ensures refused { IfErr result (RefusedAs (IsUnplanned tops.now globals)) }
-{
-    let survey = survey_tops(alloc, tops)?;
-    let units = units(alloc, &survey)?;
-    let lists = reached(alloc, &units, globals)?;
-    if let Some(at) = first_early(&survey, &lists) {
-        return Err(refused(ScopeKind::EarlyGlobal, at));
-    }
-    let layout = layout(alloc, &survey, &lists)?;
-    lower(alloc, tops, &layout)
 }

@@ -6,10 +6,12 @@ use crate::definition::What;
 use crate::error::ScopeKind;
 use crate::names::Names;
 use crate::refusal::{Refusal, Refusals};
-use crate::resolver::{is_reserved, number_of, one_more};
+use crate::resolver::is_reserved;
 use crate::shape::{Shape, shape_of};
+use core_syntax::{as_number, sum_of};
 use std::alloc::{AllocError, Global};
 use sugar::{Core, Tops};
+use value_core::lists::add;
 use value_core::{Place, Text};
 
 /// The names that the top-level forms define, how many of each kind, and what is wrong with them.
@@ -68,10 +70,10 @@ impl Declared {
         if self.is_taken(name) {
             return self.twice(at);
         }
-        let what = What::Function(self.functions, number_of(takes)?);
+        let what = What::Function(self.functions, as_number(takes)?);
         self.definitions
             .add(alloc, Text::from_bytes(alloc, name)?, what)?;
-        self.functions = one_more(self.functions)?;
+        self.functions = sum_of(self.functions, 1)?;
         Ok(())
     }
 
@@ -87,10 +89,10 @@ impl Declared {
         if self.is_taken(name) {
             return self.twice(at);
         }
-        let what = What::Behaviour(self.behaviours, number_of(state)?);
+        let what = What::Behaviour(self.behaviours, as_number(state)?);
         self.definitions
             .add(alloc, Text::from_bytes(alloc, name)?, what)?;
-        self.behaviours = one_more(self.behaviours)?;
+        self.behaviours = sum_of(self.behaviours, 1)?;
         Ok(())
     }
 
@@ -103,7 +105,7 @@ impl Declared {
         let what = What::Global(self.globals);
         self.definitions
             .add(alloc, Text::from_bytes(alloc, name)?, what)?;
-        self.globals = one_more(self.globals)?;
+        self.globals = sum_of(self.globals, 1)?;
         Ok(())
     }
 
@@ -118,8 +120,6 @@ impl Declared {
         ensures { OnOk result (self.new ≡ twice at self.old) }
     {
         let kind = ScopeKind::Twice;
-        self.refusals
-            .push(Refusal { kind, at })
-            .map_err(|_| AllocError)
+        add(&mut self.refusals, Refusal { kind, at })
     }
 }

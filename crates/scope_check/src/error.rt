@@ -1,6 +1,9 @@
 ghost use Rattle.std.specs.Prelude.{◌≡◌};
+ghost use Rattle.scope_check.specs.Check.{kind_of, scope_no};
+ghost use Rattle.scope_check.specs.Kinds.{kind_number};
 ghost use Rattle.scope_check.specs.declared.error.ScopeNo.TheVariants.{Memory, Refused};
 
+use program_plan::{PlanKind, PlanNo};
 use std::alloc::AllocError;
 use thiserror::Error;
 use value_core::Place;
@@ -28,6 +31,22 @@ pub enum ScopeKind {
     TooManyNodes,
 }
 
+impl ScopeKind {
+    /// The number of the refusal, from 1 to 6: at one place the lowest counts.
+    pub fn number(self) -> u8
+        ensures { result ≡ kind_number self }
+    {
+        match self {
+            ScopeKind::Unknown => 1,
+            ScopeKind::Twice => 2,
+            ScopeKind::Arity => 3,
+            ScopeKind::BadForm => 4,
+            ScopeKind::EarlyGlobal => 5,
+            ScopeKind::TooManyNodes => 6,
+        }
+    }
+}
+
 /// Why there is no program.
 #[derive(Clone, Copy, Debug, PartialEq, Eq, Error)]
 pub enum ScopeNo {
@@ -52,4 +71,23 @@ pub(crate) fn refused(kind: ScopeKind, at: Place) -> ScopeNo
     ensures { result ≡ Refused kind at }
 {
     ScopeNo::Refused { kind, at }
+}
+
+/// The same refusal, of forms that are resolved.
+pub(crate) fn scope_no(no: PlanNo) -> ScopeNo
+    ensures { result ≡ scope_no no }
+{
+    match no {
+        PlanNo::Refused { kind, at } => refused(kind_of(kind), at),
+        PlanNo::Memory => ScopeNo::Memory,
+    }
+}
+
+fn kind_of(kind: PlanKind) -> ScopeKind
+    ensures { result ≡ kind_of kind }
+{
+    match kind {
+        PlanKind::EarlyGlobal => ScopeKind::EarlyGlobal,
+        PlanKind::TooManyNodes => ScopeKind::TooManyNodes,
+    }
 }

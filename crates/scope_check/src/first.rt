@@ -1,7 +1,6 @@
 ghost use Rattle.std.specs.Prelude.{◌≡◌, Some};
-ghost use Rattle.scope_check.specs.First.{kind_number, refusal_cmp, chosen, sooner, first_of};
+ghost use Rattle.scope_check.specs.First.{refusal_cmp, chosen, sooner, first_of};
 
-use crate::error::ScopeKind;
 use crate::refusal::{Refusal, Refusals};
 use std::cmp::Ordering;
 
@@ -45,21 +44,5 @@ impl Refusal {
             .cmp(&other.at.line())
             .then(self.at.column().cmp(&other.at.column()))
             .then(self.kind.number().cmp(&other.kind.number()))
-    }
-}
-
-impl ScopeKind {
-    /// The number of the refusal, from 1.
-    pub fn number(self) -> u8
-        ensures { result ≡ kind_number self }
-    {
-        match self {
-            ScopeKind::Unknown => 1,
-            ScopeKind::Twice => 2,
-            ScopeKind::Arity => 3,
-            ScopeKind::BadForm => 4,
-            ScopeKind::EarlyGlobal => 5,
-            ScopeKind::TooManyNodes => 6,
-        }
     }
 }

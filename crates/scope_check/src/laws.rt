@@ -1,4 +1,4 @@
-ghost use Rattle.std.specs.Prelude.{◌≡◌, List};
+ghost use Rattle.std.specs.Prelude.{◌≡◌, ◌⊎◌, List};
 ghost use Rattle.core_syntax.specs.Table.{Table};
 ghost use Rattle.value_core.specs.Place.{Spot};
 ghost use Rattle.sexpr_reader.specs.declared.form.Form.{Form};
@@ -19,6 +19,11 @@ pub fn refused_once()
 /// The law that no forms both have a program and are refused.
 pub fn program_or_refused()
     ensures { (forms : List Form) (table : Table) (kind : ScopeKind) (at : Spot) → IsProgram forms table → IsRefused forms kind at → ⊥ }
+{}
+
+/// The law that all forms have a program, or are refused with some kind at some place.
+pub fn every_source()
+    ensures { (forms : List Form) → ((table : Table) × IsProgram forms table) ⊎ ((kind : ScopeKind) × (at : Spot) × IsRefused forms kind at) }
 {}
 
 /// The law that a program, read back from its table, is that of the forms that it was made of.

@@ -7,11 +7,13 @@ ghost use Rattle.scope_check.specs.Scope.{inner};
 ghost use Rattle.scope_check.specs.Value.{meaning, meanings};
 
 use crate::error::ScopeKind;
-use crate::expr::{Expr, ExprKind, Exprs, Looping};
-use crate::resolver::{Resolver, expr_at, number_of, push};
+use crate::resolver::{Resolver, expr_at};
 use crate::stand::{Stand, Target};
+use core_syntax::as_number;
+use program_plan::{Expr, ExprKind, Exprs, Looping};
 use std::alloc::AllocError;
 use sugar::{Core, CoreKind};
+use value_core::lists::add;
 use value_core::{Place, Text};
 
 /// What a loop begins with: its own function, where its body stands, and the initial expressions.
@@ -28,7 +30,7 @@ impl Begun {
         ensures { IfOk result (λ expr. expr ≡ expr_at at (ExprKind.Loop self.own (self.exprs ++ body ∷ []))) }
     {
         let mut exprs = self.exprs;
-        push(&mut exprs, body)?;
+        add(&mut exprs, body)?;
         Ok(expr_at(at, ExprKind::Loop(self.own, exprs)))
     }
 }
@@ -51,7 +53,7 @@ impl Resolver {
         let mut exprs = self.bound(bindings.items(), stand)?;
         let body = self.body(at, parts, stand)?;
         self.locals.leave(depth);
-        push(&mut exprs, body)?;
+        add(&mut exprs, body)?;
         Ok(expr_at(at, ExprKind::Let(exprs)))
     }
 
@@ -102,7 +104,7 @@ impl Resolver {
         for index in 0..parts.len() / 2 {
             let name = self.binder(&parts[2 * index], stand)?;
             let expr = self.bind(name, &parts[2 * index + 1], stand)?;
-            push(&mut exprs, expr)?;
+            add(&mut exprs, expr)?;
         }
         Ok(exprs)
     }
@@ -136,7 +138,7 @@ impl Resolver {
 fn loop_stand(own: &Looping) -> Result<Stand, AllocError>
     ensures { IfOk result (λ stand. stand ≡ loop_stand own.now) }
 {
-    let takes = number_of(own.arguments.items().len())?;
+    let takes = as_number(own.arguments.items().len())?;
     let target = Target {
         number: own.number,
         takes,

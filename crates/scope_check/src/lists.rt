@@ -9,16 +9,16 @@ ghost use Rattle.scope_check.specs.Value.{meaning, meanings};
 
 use crate::definition::What;
 use crate::error::ScopeKind;
-use crate::expr::{Expr, ExprKind, Exprs};
 use crate::found::Found;
-use crate::head::Head;
-use crate::resolver::{Resolver, expr_at, push};
+use crate::resolver::{Resolver, expr_at};
 use crate::rule::Rule;
 use crate::special::{Special, special_named};
 use crate::stand::Stand;
 use crate::start::Start;
+use program_plan::{Expr, ExprKind, Exprs, Head};
 use std::alloc::AllocError;
 use sugar::Core;
+use value_core::lists::add;
 use value_core::{Op, Place};
 use value_ops::{op_named, takes};
 
@@ -175,7 +175,7 @@ impl Resolver {
     {
         let body = self.body(at, parts, stand.inner())?;
         let mut exprs = Exprs::new(self.alloc);
-        push(&mut exprs, body)?;
+        add(&mut exprs, body)?;
         Ok(expr_at(at, ExprKind::Apply(head, exprs)))
     }
 

@@ -7,6 +7,7 @@ ghost use Rattle.scope_check.specs.Names.{innermost, levels_of};
 use std::alloc::{AllocError, Global};
 use std::collections::BTreeMap;
 use std::marker::Model;
+use value_core::lists::add;
 use value_core::{Seq, Text};
 
 /// The locals that are bound at a place, from the outermost to the innermost. One without a name has the empty name.
@@ -110,7 +111,7 @@ impl Locals {
         let mut levels = Seq::new(alloc);
         for local in &self.locals[level as usize..] {
             let level = self.find(local.name.items()).unwrap_or(0);
-            levels.push(level).map_err(|_| AllocError)?;
+            add(&mut levels, level)?;
         }
         Ok(levels)
     }

@@ -9,18 +9,19 @@ ghost use Rattle.scope_check.specs.Value.{meaning, meanings, found_value, map_of
 
 use crate::definition::What;
 use crate::error::ScopeKind;
-use crate::expr::{Expr, ExprKind, Exprs};
 use crate::found::Found;
-use crate::head::Head;
 use crate::lists::op_with;
 use crate::locals::Locals;
 use crate::names::Names;
 use crate::refusal::{Refusal, Refusals};
 use crate::rule::Rule;
 use crate::stand::Stand;
+use core_syntax::sum_of;
 use itoa::Buffer;
+use program_plan::{Expr, ExprKind, Exprs, Head};
 use std::alloc::{AllocError, Global};
 use sugar::{BadKind, Core, CoreKind, is_form_word};
+use value_core::lists::add;
 use value_core::{Place, Text};
 
 /// What resolves core forms: the definitions, the locals at the place where it stands, the number of the next loop, and
@@ -129,7 +130,7 @@ impl Resolver {
         ensures { IfOk result (λ number. (number ≡ self.old.loops) × Moves self.old self.new (self.old.loops + 1) []) }
     {
         let number = self.loops;
-        self.loops = one_more(number)?;
+        self.loops = sum_of(number, 1)?;
         Ok(number)
     }
 
@@ -143,7 +144,7 @@ impl Resolver {
         for (index, part) in parts.iter().enumerate() {
             let is_last = index + 1 == parts.len();
             let expr = self.value(part, rule.stand_of(index, is_last, stand))?;
-            push(&mut exprs, expr)?;
+            add(&mut exprs, expr)?;
             self.pass(rule)?;
         }
         self.locals.leave(depth);
@@ -199,16 +200,8 @@ impl Resolver {
     pub fn note(&mut self, kind: ScopeKind, at: Place) -> Result<(), AllocError>
         ensures { OnOk result (Moves self.old self.new self.old.loops (refusal kind at ∷ [])) }
     {
-        self.refusals
-            .push(Refusal { kind, at })
-            .map_err(|_| AllocError)
+        add(&mut self.refusals, Refusal { kind, at })
     }
-}
-
-pub fn push(exprs: &mut Exprs, expr: Expr) -> Result<(), AllocError>
-    ensures { OnOk result (exprs.new ≡ exprs.old ++ expr ∷ []) }
-{
-    exprs.push(expr).map_err(|_| AllocError)
 }
 
 pub fn expr_at(at: Place, kind: ExprKind) -> Expr
@@ -221,13 +214,6 @@ pub fn nil_at(at: Place) -> Expr
     ensures { result ≡ nil_at at }
 {
     expr_at(at, ExprKind::Nil)
-}
-
-/// A length as a number of 32 bits. A longer list counts as want of memory.
-pub fn number_of(length: usize) -> Result<u32, AllocError>
-    ensures { IfOk result (λ number. number ≡ length) }
-{
-    u32::try_from(length).map_err(|_| AllocError)
 }
 
 fn bad_kind(kind: BadKind) -> ScopeKind
@@ -254,11 +240,4 @@ fn made_name(alloc: Global, number: u32) -> Result<Text, AllocError>
     let mut buffer = Buffer::new();
     name.extend(buffer.format(number).as_bytes())?;
     Ok(name)
-}
-
-/// A count one further on. One that does not fit counts as want of memory.
-pub fn one_more(count: u32) -> Result<u32, AllocError>
-    ensures { IfOk result (λ more. more ≡ count + 1) }
-{
-    count.checked_add(1).ok_or(AllocError)
 }

@@ -6,13 +6,15 @@ ghost use Rattle.scope_check.specs.Tops.{parameters, function_top, behaviour_top
 ghost use Rattle.scope_check.specs.Value.{meaning, meanings};
 
 use crate::error::ScopeKind;
-use crate::resolver::{Resolver, nil_at, number_of, one_more};
+use crate::resolver::{Resolver, nil_at};
 use crate::shape::{Reaction, Shape, shape_of};
 use crate::stand::{Stand, Target};
-use crate::top::{Reacting, Top, TopForms, TopKind};
+use core_syntax::{as_number, sum_of};
+use program_plan::{Reacting, Top, TopForms, TopKind};
 use std::alloc::AllocError;
 use sugar::Core;
 use value_core::Place;
+use value_core::lists::add;
 
 impl Resolver {
     /// What the top-level forms come to, where functions are numbered from 0.
@@ -24,8 +26,7 @@ impl Resolver {
         let mut tops = TopForms::new(self.alloc);
         for form in forms {
             let top = self.top(form, number)?;
-            number = functions_behind(&top.kind, number)?;
-            push(&mut tops, top)?;
+            number = push_top(&mut tops, top, number)?;
         }
         Ok(tops)
     }
@@ -56,7 +57,7 @@ impl Resolver {
         requires { self.old.locals ≡ [] }
         ensures { IfOk result (GivesTop self.old self.new (function_top at number parameters.now body.now self.old.definitions self.old.loops)) }
     {
-        let takes = number_of(parameters.len())?;
+        let takes = as_number(parameters.len())?;
         let stand = function_stand(number, takes);
         self.parameters(parameters, stand)?;
         let body = self.body(at, body, stand)?;
@@ -70,8 +71,8 @@ impl Resolver {
     {
         let head = Reacting {
             at: reaction.at,
-            state: number_of(reaction.state.len())?,
-            message: number_of(reaction.message.len())?,
+            state: as_number(reaction.state.len())?,
+            message: as_number(reaction.message.len())?,
         };
         self.parameters(reaction.state, outside())?;
         self.parameters(reaction.message, outside())?;
@@ -121,15 +122,19 @@ fn functions_behind(kind: &TopKind, number: u32) -> Result<u32, AllocError>
     ensures { IfOk result (λ next. next ≡ functions_behind kind.now number) }
 {
     match kind {
-        TopKind::Function(_, _) => one_more(number),
+        TopKind::Function(_, _) => sum_of(number, 1),
         _ => Ok(number),
     }
 }
 
-fn push(tops: &mut TopForms, top: Top) -> Result<(), AllocError>
-    ensures { IfOk result (λ _. tops.new ≡ tops.old ++ top ∷ []) }
+// Appends a form where the next function has that number, and gives the number of the function behind it.
+fn push_top(tops: &mut TopForms, top: Top, number: u32) -> Result<u32, AllocError>
+    ensures tops { IfOk result (λ _. tops.new ≡ tops.old ++ top ∷ []) }
+    ensures next { IfOk result (λ next. next ≡ functions_behind top.kind number) }
 {
-    tops.push(top).map_err(|_| AllocError)
+    let next = functions_behind(&top.kind, number)?;
+    add(tops, top)?;
+    Ok(next)
 }
 
 fn top_at(at: Place, kind: TopKind) -> Top

@@ -1,9 +1,4 @@
-pub mod Codes
-pub mod Logged
-pub mod Map
+pub mod Actors
 pub mod Now
 pub mod Progress
 pub mod Standing
-pub mod Task
-pub mod Tasks
-pub mod Units

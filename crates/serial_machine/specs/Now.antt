@@ -6,15 +6,16 @@ use Rattle.value_core.specs.declared.value.Value.{Value}
 use Rattle.core_syntax.specs.declared.node_id.NodeId.{NodeId}
 use Rattle.core_syntax.specs.Table.{Table}
 use Rattle.serial_model.specs.declared.actor_state.ActorState.{ActorState}
-use Rattle.serial_model.specs.Named.{Name, named, with_named, made_by}
+use Rattle.value_core.specs.Named.{Name, named, with_named, made_by}
 use Rattle.serial_model.specs.State.{Setup, UnitState, State, new_unit}
 use Rattle.serial_model.specs.Step.{with_unit, with_queue, queue_of}
 use Rattle.serial_machine.specs.declared.now.Now.{Now}
-use Rattle.serial_machine.specs.declared.task.Done.{Done}
+use Rattle.serial_units.specs.declared.task.Done.{Done}
 use Rattle.serial_model.specs.Task.{Result}
-use Rattle.serial_machine.specs.Task.{outcome_of}
-use Rattle.serial_machine.specs.declared.unit.Becoming.{Becoming as KeptBecoming}
-use Rattle.serial_machine.specs.Units.{becoming_of, units_of, AreUnits, turning}
+use Rattle.serial_units.specs.Task.{outcome_of}
+use Rattle.serial_units.specs.declared.unit.Becoming.{Becoming as KeptBecoming}
+use Rattle.serial_units.specs.Units.{becoming_of, units_of, AreUnits}
+use Rattle.serial_machine.specs.Actors.{turning}
 
 -- the state, where so many bytes were printed before
 abbrev pub state_after : List ℕ → Now → State

@@ -1,19 +1,18 @@
 ghost use Rattle.std.specs.Prelude.{◌≡◌, ◌<◌, ◌++◌, OnOk, IfOk, Some, length, suc};
 ghost use Rattle.std.specs.Option.{option_copied, option_and_then};
-ghost use Rattle.value_core.specs.declared.value.Value.{Value as Datum};
-ghost use Rattle.serial_model.specs.Named.{Name as Naming, made_by, named, with_named};
+ghost use Rattle.value_core.specs.Named.{Name as Naming, made_by, named, with_named};
 ghost use Rattle.serial_model.specs.State.{Setup, UnitState, new_unit};
 ghost use Rattle.serial_model.specs.Step.{sent, spawned, with_unit};
 ghost use Rattle.serial_machine.specs.Now.{Comes};
-ghost use Rattle.serial_machine.specs.Units.{units_of};
+ghost use Rattle.serial_units.specs.Units.{units_of};
 
-use crate::maps::put;
 use crate::now::Now;
-use crate::unit::Unit;
 use core_syntax::{NodeId, Program};
 use eval_step::Machine;
 use serial_model::{ActorState, Limits};
+use serial_units::Unit;
 use std::alloc::{AllocError, Global};
+use value_core::name_map::put;
 use value_core::{Name, Value, Values};
 
 impl Now {

@@ -1,41 +1,18 @@
-ghost use Rattle.std.specs.Prelude.{◌≡◌, ◌<◌, OnOk, IfOk, None, length};
-ghost use Rattle.value_core.specs.declared.value.Value.{Value as Datum};
-ghost use Rattle.serial_model.specs.Log.{Log};
-ghost use Rattle.serial_model.specs.Named.{Named, named, over};
-ghost use Rattle.serial_model.specs.State.{Setup, UnitState};
+ghost use Rattle.std.specs.Prelude.{◌≡◌, OnOk, IfOk, None};
+ghost use Rattle.value_core.specs.Named.{over};
+ghost use Rattle.serial_model.specs.State.{Setup};
 ghost use Rattle.serial_model.specs.Step as row;
-ghost use Rattle.serial_machine.specs.Now.{state_after, turned_into, Does, Tries, TakesEffects};
-ghost use Rattle.serial_machine.specs.Units.{AsksAt};
+ghost use Rattle.serial_machine.specs.Now.{Does, TakesEffects};
+ghost use Rattle.serial_units.specs.Units.{AsksAt};
 
-use crate::around::Around;
-use crate::copies::copy_effect;
-use crate::log::TaskLog;
-use crate::maps::{find, put};
 use crate::now::Now;
-use crate::task::{Done, TaskEnd};
-use crate::transact::transact;
-use crate::unit::Becoming;
-use core_syntax::{NodeId, Program};
-use serial_model::{Effect, Limits, What};
+use serial_model::{Effect, What};
+use serial_units::Becoming;
 use std::alloc::{AllocError, Global};
 use std::collections::BTreeMap;
-use value_core::{Code, Name, Place, Value, Values};
-
-impl TaskLog {
-    /// The refs written.
-    pub(crate) fn writes(&self) -> &BTreeMap<Name, Value>
-        ensures { result.now.entries ≡ self.now.writes }
-    {
-        &self.writes
-    }
-
-    /// Gives up the log for its effects.
-    pub(crate) fn into_effects(self) -> Vec<Effect>
-        ensures { result.items ≡ self.effects }
-    {
-        self.effects
-    }
-}
+use task_log::TaskLog;
+use value_core::name_map::put;
+use value_core::{Name, Value};
 
 /// The refs, with what is written.
 fn put_over(

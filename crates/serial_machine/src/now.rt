@@ -1,14 +1,13 @@
-ghost use Rattle.std.specs.Prelude.{◌≡◌, OnOk};
+ghost use Rattle.std.specs.Prelude.{OnOk};
 ghost use Rattle.serial_model.specs.declared.end.End.TheVariants as ends;
 ghost use Rattle.serial_model.specs.State.{Setup};
 ghost use Rattle.serial_model.specs.Step.{ended, with_unit};
 ghost use Rattle.serial_machine.specs.Now.{Comes, Does};
-ghost use Rattle.serial_machine.specs.Units.{settled, AsksAt};
+ghost use Rattle.serial_units.specs.Units.{settled, AsksAt};
 
-use crate::queues::Queues;
-use crate::unit::Becoming;
-use crate::units::Units;
+use actor_queues::Queues;
 use serial_model::{ActorState, End};
+use serial_units::{Becoming, Units};
 use std::alloc::{AllocError, Global};
 use std::collections::BTreeMap;
 use value_core::{Code, Name, Place, Value};

@@ -1,18 +1,20 @@
-ghost use Rattle.std.specs.Prelude.{◌≡◌, ◌<◌, ◌++◌, OnOk, IfOk, Some, length};
+ghost use Rattle.std.specs.Prelude.{◌<◌, ◌++◌, OnOk, IfOk, Some, length};
 ghost use Rattle.value_core.specs.declared.value.Value.TheVariants as value;
 ghost use Rattle.value_core.specs.declared.code.Code.TheVariants as code;
-ghost use Rattle.serial_model.specs.Named.{made_by, named, with_named};
+ghost use Rattle.value_core.specs.Named.{named, with_named};
+ghost use Rattle.serial_model.specs.declared.answer.Answer.TheVariants as answer;
+ghost use Rattle.serial_model.specs.Ahead.{of_turn, self_of};
 ghost use Rattle.serial_model.specs.State.{Setup, new_unit};
 ghost use Rattle.serial_model.specs.Step as row;
 ghost use Rattle.serial_machine.specs.Now.{Does, Tries};
-ghost use Rattle.serial_machine.specs.Units.{AsksAt};
+ghost use Rattle.serial_units.specs.Units.{AsksAt};
 
-use crate::maps::find;
 use crate::now::Now;
-use crate::unit::Becoming;
 use core_syntax::{NodeId, Program};
 use serial_model::{End, Limits};
+use serial_units::Becoming;
 use std::alloc::{AllocError, Global};
+use value_core::name_map::find;
 use value_core::{Code, Name, Place, Text, Value, Values};
 
 impl Now {
@@ -54,7 +56,7 @@ impl Now {
         asked: &Name,
     ) -> Result<bool, AllocError>
         requires { AsksAt name.now self.old.units }
-        ensures { IfOk result (λ done. (setup : Setup) → Tries setup name.now self.old self.new done (λ s unit. row.gets_found s name.now unit (named asked.now s.refs))) }
+        ensures { IfOk result (λ done. (setup : Setup) → Tries setup name.now self.old self.new done (λ s unit. row.gets_if_there s name.now unit (named asked.now s.refs))) }
     {
         match find(&self.refs, asked) {
             Some(content) => {
@@ -106,7 +108,7 @@ impl Now {
         future: &Name,
     ) -> Result<bool, AllocError>
         requires { AsksAt name.now self.old.units }
-        ensures { IfOk result (λ done. (setup : Setup) → Tries setup name.now self.old self.new done (λ s unit. row.gets_found s name.now unit (row.value_of s future.now))) }
+        ensures { IfOk result (λ done. (setup : Setup) → Tries setup name.now self.old self.new done (λ s unit. row.gets_if_there s name.now unit (row.value_of s future.now))) }
     {
         match self.value_of(future) {
             Some(found) => {
@@ -161,7 +163,7 @@ impl Now {
     ) -> Result<(), AllocError>
         requires { AsksAt name.now self.old.units }
         ensures { OnOk result ((setup : Setup) → Does setup name.now self.old self.new (λ s unit.
-            row.in_turn unit.actor (row.fails s name.now code.NoTurn at) (λ actor. row.gets s name.now (row.becoming unit behaviour state) value.Nil))) }
+            row.gives s name.now (row.becoming unit behaviour state) at (of_turn unit.actor (answer.Value value.Nil)))) }
     {
         match self.actor_of(name) {
             Some(_) => self.reply(
@@ -184,7 +186,7 @@ impl Now {
     ) -> Result<(), AllocError>
         requires { AsksAt name.now self.old.units }
         ensures { OnOk result ((setup : Setup) → Does setup name.now self.old self.new (λ s unit.
-            row.in_turn unit.actor (row.fails s name.now code.NoTurn at) (λ actor. row.gets s name.now unit (value.Actor actor)))) }
+            row.gives s name.now unit at (self_of unit.actor))) }
     {
         match self.actor_of(name) {
             Some(actor) => {

@@ -4,23 +4,22 @@ ghost use Rattle.core_syntax.specs.WellFormed.{IsWellFormed};
 ghost use Rattle.eval_step.specs.Evaluation.{IsAsk};
 ghost use Rattle.serial_model.specs.Carried.{IsThere};
 ghost use Rattle.serial_model.specs.declared.request.Request.TheVariants as request;
-ghost use Rattle.serial_model.specs.Named.{named};
+ghost use Rattle.value_core.specs.Named.{named};
 ghost use Rattle.serial_model.specs.State.{Setup, UnitState};
-ghost use Rattle.serial_model.specs.Task.{transaction};
+ghost use Rattle.serial_model.specs.Task.{root_task};
 ghost use Rattle.serial_model.specs.Step as row;
-ghost use Rattle.serial_machine.specs.Now.{state_after, IsResult, Comes, Does, Tries, Steps};
-ghost use Rattle.serial_machine.specs.Units.{AreUnits, AsksAt, IsUnit, IsChanged, IsFreed, IsThereAt, IsGone, IsRun, becoming_of, unit_of, units_of};
+ghost use Rattle.serial_machine.specs.Now.{state_after, IsResult, Does, Tries, Steps};
+ghost use Rattle.serial_units.specs.Units.{AreUnits, AsksAt, becoming_of, units_of};
+ghost use Rattle.serial_machine.specs.Actors.{IsFreed};
+ghost use Rattle.serial_units.specs.Asking.{IsThereAt};
 
-use crate::around::Around;
 use crate::now::Now;
-use crate::task::{Done, TaskEnd};
-use crate::transact::transact;
-use crate::unit::Becoming;
 use core_syntax::{NodeId, Program};
-use eval_step::copy_list;
 use serial_model::{ActorState, Halt, Limits, Request};
+use serial_units::{Around, Becoming, Done, TaskEnd, transact};
 use std::alloc::{AllocError, Global};
 use std::collections::BTreeMap;
+use value_core::lists::copy_list;
 use value_core::{Code, Name, Place, Value, Values};
 
 impl Now {
@@ -74,7 +73,7 @@ impl Now {
     ) -> Result<Done, AllocError>
         requires { body.index < length program.now.nodes }
         ensures { IfOk result (λ done. (before : List ℕ) (unit : UnitState) → named name.now (units_of self.now.units) ≡ Some unit
-            → IsResult done (transaction (row.around (record { program = program.now; limits = limits }) (state_after before self.now) unit) (row.next_made name.now unit) body values)) }
+            → IsResult done (root_task (row.around (record { program = program.now; limits = limits }) (state_after before self.now) unit) (row.next_made name.now unit) body values)) }
     {
         let made = self.next_made(alloc, name)?;
         let around = Around {
@@ -159,7 +158,7 @@ impl Now {
         halt: Halt,
     ) -> Result<bool, AllocError>
         requires asks { IsAsk halt → AsksAt name.now self.old.units }
-        requires there { IsThereAt program.now halt }
+        requires there { IsThereAt program.now false halt }
         ensures { IfOk result (λ done. Tries (record { program = program.now; limits = limits }) name.now self.old self.new done
             (λ s unit. row.goes_on (record { program = program.now; limits = limits }) s name.now unit halt)) }
     {

@@ -11,15 +11,15 @@ ghost use Rattle.serial_model.specs.declared.end.End.TheVariants as ends;
 ghost use Rattle.serial_machine.specs.Now.{state_after, IsNow, IsStepped};
 ghost use Rattle.serial_machine.specs.Progress.{state_of};
 ghost use Rattle.serial_machine.specs.Standing.{end_seen, IsAdvanced};
-ghost use Rattle.serial_machine.specs.Units.{AreUnits};
+ghost use Rattle.serial_units.specs.Units.{AreUnits};
 ghost use Rattle.serial_machine.specs.declared.error.SerialNo.TheVariants as no;
 
 use crate::error::SerialNo;
 use crate::now::Now;
-use crate::queues::Queues;
-use crate::units::Units;
+use actor_queues::Queues;
 use core_syntax::Program;
 use serial_model::{End, Entry, History, Limits};
+use serial_units::Units;
 use std::alloc::{AllocError, Global};
 use std::collections::BTreeMap;
 use std::marker::Model;

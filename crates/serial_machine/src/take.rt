@@ -1,23 +1,20 @@
-ghost use Rattle.std.specs.Prelude.{◌≡◌, ◌∷◌, ◌++◌, [], ℕ, ◌<◌, length, List, suc, true, IfOk, OnOk, Some, None, if◌then◌else◌};
+ghost use Rattle.std.specs.Prelude.{◌≡◌, ◌++◌, ◌<◌, length, true, IfOk, OnOk, Some, None, if◌then◌else◌};
 ghost use Rattle.std.specs.Option.{option_and_then};
-ghost use Rattle.std.specs.List.{slice_get};
-ghost use Rattle.core_syntax.specs.WellFormed.{IsWellFormed};
-ghost use Rattle.serial_model.specs.Named.{made_by, named, with_named};
-ghost use Rattle.serial_model.specs.State.{Setup, State};
+ghost use Rattle.value_core.specs.Named.{named, IsChanged};
 ghost use Rattle.serial_model.specs.Step as row;
 ghost use Rattle.serial_model.specs.declared.actor_state.ActorState.{ActorState as Acting};
-ghost use Rattle.serial_machine.specs.Now.{Steps, Comes, BeginsTurn, IsTurn};
-ghost use Rattle.serial_machine.specs.Units.{idle_of, turning, IsChanged};
+ghost use Rattle.serial_machine.specs.Now.{Steps, BeginsTurn, IsTurn};
+ghost use Rattle.serial_machine.specs.Actors.{idle_of, turning};
 
-use crate::maps::find;
 use crate::now::Now;
 use crate::run::done;
 use core_syntax::{NodeId, Program};
-use eval_step::copy_list;
 use serial_model::{ActorState, End, Limits};
 use std::alloc::{AllocError, Global};
 use std::collections::BTreeMap;
-use value_core::{Name, Value, Values};
+use value_core::lists::{add, copy_list};
+use value_core::name_map::find;
+use value_core::{Name, Values};
 
 /// The actor begins a turn: its number.
 fn begin(actors: &mut BTreeMap<Name, ActorState>, name: &Name) -> Result<(), AllocError>
@@ -43,15 +40,9 @@ fn joined(alloc: Global, state: &Values, message: &Values) -> Result<Values, All
 {
     let mut values = copy_list(alloc, state.items())?;
     for value in message.items() {
-        push_value(&mut values, value.copy(alloc)?)?;
+        add(&mut values, value.copy(alloc)?)?;
     }
     Ok(values)
-}
-
-fn push_value(values: &mut Values, value: Value) -> Result<(), AllocError>
-    ensures { IfOk result (λ _. values.new ≡ values.old ++ value ∷ []) }
-{
-    values.push(value).map_err(|_| AllocError)
 }
 
 impl Now {

@@ -4,7 +4,7 @@ use Rattle.std.specs.declared.cmp.Ordering.TheVariants.{Less, Equal}
 use Rattle.std.specs.Ordering.{nat_cmp, ordering_then}
 use Rattle.std.proofs.lemmas.Bool.Decides.{nat_tests}
 use Rattle.value_core.specs.Name.{after_cmp}
-use Rattle.serial_model.specs.Named.{Name, made_by}
+use Rattle.value_core.specs.Named.{Name, made_by}
 
 -- both names have the place in which they differ first, and the first name has the smaller number there
 abbrev pub IsEarlier : Name → Name → Type 0

@@ -6,7 +6,7 @@ use Rattle.value_core.specs.Place.{Spot}
 use Rattle.value_core.specs.declared.code.Code.TheVariants as code
 use Rattle.value_core.specs.declared.value.Value.{Value}
 use Rattle.value_core.specs.declared.value.Value.TheVariants as value
-use Rattle.value_ops.specs.Kinds.{is_false}
+use Rattle.value_core.specs.primitives.Kinds.{is_false}
 use Rattle.core_syntax.specs.declared.function.Function.{Function}
 use Rattle.core_syntax.specs.declared.node.Node.{Node}
 use Rattle.core_syntax.specs.declared.node.Node.TheVariants as node
@@ -19,7 +19,7 @@ use Rattle.serial_model.specs.declared.answer.Answer.TheVariants as answer
 use Rattle.serial_model.specs.declared.halt.Halt.{Halt}
 use Rattle.serial_model.specs.declared.halt.Halt.TheVariants as halt
 use Rattle.serial_model.specs.declared.request.Request.{Request}
-use Rattle.serial_model.specs.Operation.{Outcome, Gives, Faults, Asks, Calls, arguments, operate}
+use Rattle.serial_model.specs.Operation.{Action, Gives, Faults, Asks, Calls, arguments, operate}
 
 -- an evaluation comes to a value, with the fuel and the answers that are left, or it stops
 pub data Out : Type 0 where
@@ -75,7 +75,7 @@ call below None frame fuel answers = Got value.Nil fuel answers
 call below (Some function) frame fuel answers = below frame function.body fuel answers
 
 -- what an operation comes to, at the place of its form
-abbrev pub come : Table → Evals → Spot → Outcome → ℕ → List Answer → Out
+abbrev pub come : Table → Evals → Spot → Action → ℕ → List Answer → Out
 come table below at (Gives v) fuel answers = Got v fuel answers
 come table below at (Faults code) fuel answers = Stop (halt.Fault code at)
 come table below at (Asks request) fuel answers = ask request at fuel answers
@@ -87,9 +87,9 @@ by_arguments table below frame at node fuel answers =
     each below frame (arguments node) fuel answers (λ values. come table below at (operate frame node values))
 
 -- a dosync is a do inside a transaction, and a request outside one
-abbrev pub transaction : Table → Bool → Evals → List Value → Spot → NodeId → ℕ → List Answer → Out
-transaction table true below frame at body fuel answers = below frame body fuel answers
-transaction table false below frame at body fuel answers = by_arguments table below frame at (node.Dosync body) fuel answers
+abbrev pub dosync : Table → Bool → Evals → List Value → Spot → NodeId → ℕ → List Answer → Out
+dosync table true below frame at body fuel answers = below frame body fuel answers
+dosync table false below frame at body fuel answers = by_arguments table below frame at (node.Dosync body) fuel answers
 
 -- one level of an evaluation: what a node does, in or outside a transaction
 abbrev pub level : Table → Bool → Evals → List Value → Spot → Node → ℕ → List Answer → Out
@@ -97,7 +97,7 @@ level table inside below frame at (node.Do parts) fuel answers = in_turn below f
 level table inside below frame at (node.If condition taken other) fuel answers =
     then_go (below frame condition fuel answers) (λ v fuel answers. choose below frame (is_false v) taken other fuel answers)
 level table inside below frame at (node.Let bound body) fuel answers = bind below frame bound body fuel answers
-level table inside below frame at (node.Dosync body) fuel answers = transaction table inside below frame at body fuel answers
+level table inside below frame at (node.Dosync body) fuel answers = dosync table inside below frame at body fuel answers
 level table inside below frame at other fuel answers = by_arguments table below frame at other fuel answers
 
 -- what stands between a node, in a frame of so many values, and its evaluation

@@ -6,7 +6,7 @@ use Rattle.value_core.specs.declared.value.Value.{Value}
 use Rattle.serial_model.specs.declared.end.End.{End}
 use Rattle.serial_model.specs.declared.entry.Entry.{Entry}
 use Rattle.serial_model.specs.declared.entry.Entry.TheVariants.{Run, Take}
-use Rattle.serial_model.specs.Named.{Name, Named}
+use Rattle.value_core.specs.Named.{Name, Named}
 use Rattle.serial_model.specs.State.{UnitState, Queues, State}
 
 abbrev pub if_unfinished : Option Value → Name → Option Name

@@ -3,7 +3,7 @@
 use Rattle.std.specs.Prelude.{◌≡◌, ℕ, Bool, if◌then◌else◌, List, [], Contains}
 use Rattle.value_core.specs.Place.{Spot}
 use Rattle.value_core.specs.declared.value.Value.{Value}
-use Rattle.value_ops.specs.Words.{takes_of}
+use Rattle.value_core.specs.primitives.Words.{takes_of}
 use Rattle.core_syntax.specs.declared.behaviour.Behaviour.{Behaviour}
 use Rattle.core_syntax.specs.declared.node_id.NodeId.{NodeId}
 use Rattle.core_syntax.specs.Fits.{fits}

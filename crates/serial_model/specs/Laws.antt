@@ -1,15 +1,23 @@
 -- What holds of every history that is replayed.
-use Rattle.std.specs.Prelude.{◌≡◌, ◌+◌, ◌*◌, ◌≤◌, List, [], length, None, Some}
+use Rattle.std.specs.Prelude.{◌≡◌, ℕ, suc, ◌+◌, ◌*◌, ◌≤◌, true, List, [], ◌++◌, length, None, Some}
 use Rattle.std.specs.Option.{IsSome}
+use mathlib.Core.List.{IsPrefix}
+use Rattle.value_core.specs.Place.{Spot}
 use Rattle.value_core.specs.declared.value.Value.{Value}
+use Rattle.core_syntax.specs.declared.node_id.NodeId.{NodeId}
+use Rattle.serial_model.specs.declared.actor_state.ActorState.{ActorState}
 use Rattle.serial_model.specs.declared.end.End.TheVariants.{Done}
 use Rattle.serial_model.specs.declared.entry.Entry.{Entry}
+use Rattle.serial_model.specs.declared.halt.Halt.TheVariants as halt
+use Rattle.serial_model.specs.declared.request.Request.TheVariants as request
 use Rattle.serial_model.specs.First.{first_of}
 use Rattle.serial_model.specs.Fitting.{IsBegun}
-use Rattle.serial_model.specs.Named.{Name, named}
+use Rattle.value_core.specs.Named.{Name, Named, named, made_by}
 use Rattle.serial_model.specs.Replay.{replay, IsOver}
 use Rattle.serial_model.specs.State.{Setup, UnitState, State}
-use Rattle.serial_model.specs.Step.{step}
+use Rattle.serial_model.specs.Step.{step, around, next_made, next_of, value_of}
+use Rattle.serial_model.specs.Task.{Around, Call, Known, fresh, turns}
+use Rattle.serial_model.specs.TaskTree.{Beginning, IsTaskOf}
 
 -- a history has at most so many entries
 abbrev pub AreBounded : Setup → Type 0
@@ -35,4 +43,40 @@ pub record IsQuiet (s : State) : Type 0 where
       → (sender : Name) (queue : List (List Value)) → named sender mail ≡ Some queue → queue ≡ []
 
 abbrev pub NothingWaits : Setup → Type 0
-NothingWaits setup = (entries : List Entry) (s : State) → replay setup entries ≡ Some s → IsOver setup s Done → s.end ≡ None → IsQuiet s
+NothingWaits setup = (entries : List Entry) (s : State) → replay setup entries ≡ Some s → s.end ≡ None → ((entry : Entry) → step setup s entry ≡ None) → IsQuiet s
+
+-- each task of a unit's transaction begins as an evaluation of the program begins
+abbrev pub TasksAreBegun : Setup → Type 0
+TasksAreBegun setup = (entries : List Entry) (s : State) → replay setup entries ≡ Some s
+    → (name : Name) (unit : UnitState) → named name s.units ≡ Some unit
+    → (body : NodeId) (values : List Value) (at : Spot) → next_of setup unit ≡ halt.Ask (request.Dosync body values) at
+    → (task : Beginning) → IsTaskOf (around setup s unit) (next_made name unit) body values task → IsBegun setup.program task.body task.values
+
+-- no task is stopped by the bound on its steps: with any larger bound it comes to the same
+abbrev pub StepsSuffice : Type 0
+StepsSuffice = (around : Around) (levels : ℕ) (call : Call) (name : Name) (body : NodeId) (values : List Value) (view : Named Value) (known : Known) (more : ℕ)
+    → turns around levels call body values view (suc around.fuel + more) (fresh name known) ≡ turns around levels call body values view (suc around.fuel) (fresh name known)
+
+-- a unit that is finished stays so, with its value
+abbrev pub ValuesStay : Setup → Type 0
+ValuesStay setup = (entries : List Entry) (s t : State) (entry : Entry) → replay setup entries ≡ Some s → step setup s entry ≡ Some t
+    → (name : Name) (v : Value) → value_of s name ≡ Some v → value_of t name ≡ Some v
+
+-- the actor is busy, and the unit is its last turn
+pub record IsLastTurn (actors : Named ActorState) (name actor : Name) : Type 0 where
+  pub state : ActorState
+  pub number : ℕ
+  pub there : named actor actors ≡ Some state
+  pub busy : state.busy ≡ true
+  pub called : name ≡ made_by actor number
+  pub last : suc number ≡ state.turns
+
+-- a turn that is not finished is the last one of a busy actor
+abbrev pub TurnsAreLast : Setup → Type 0
+TurnsAreLast setup = (entries : List Entry) (s : State) → replay setup entries ≡ Some s
+    → (name : Name) (unit : UnitState) (actor : Name) → named name s.units ≡ Some unit → unit.actor ≡ Some actor → unit.finished ≡ None
+    → IsLastTurn s.actors name actor
+
+-- a longer history has printed at least as much
+abbrev pub BytesGrow : Setup → Type 0
+BytesGrow setup = (entries more : List Entry) (s t : State) → replay setup entries ≡ Some s → replay setup (entries ++ more) ≡ Some t → IsPrefix s.bytes t.bytes

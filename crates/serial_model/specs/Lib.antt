@@ -1,3 +1,4 @@
+pub mod Ahead
 pub mod Carried
 pub mod Eval
 pub mod First
@@ -5,10 +6,11 @@ pub mod Fitting
 pub mod Laws
 pub mod Limits
 pub mod Log
-pub mod Named
 pub mod Operation
 pub mod Replay
+pub mod Standing
 pub mod State
 pub mod Step
 pub mod Task
+pub mod TaskTree
 pub mod Trace

@@ -4,7 +4,7 @@ use Rattle.std.specs.List.{list_any}
 use Rattle.value_core.specs.declared.value.Value.{Value as Datum}
 use Rattle.serial_model.specs.declared.effect.Effect.{Effect}
 use Rattle.serial_model.specs.declared.effect.What.{What}
-use Rattle.serial_model.specs.Named.{Name, Named, over, same_name, with_name, with_named}
+use Rattle.value_core.specs.Named.{Name, Named, over, same_name, with_name, with_named}
 
 -- Its name; its own writes; the futures that it has joined; how many things it has made, and how many effects are its own;
 -- and its effects with those that came by joins, in order.

@@ -7,7 +7,7 @@ use Rattle.serial_model.specs.declared.actor_state.ActorState.{ActorState}
 use Rattle.serial_model.specs.declared.answer.Answer.{Answer}
 use Rattle.serial_model.specs.declared.end.End.{End}
 use Rattle.serial_model.specs.Limits.{Budget}
-use Rattle.serial_model.specs.Named.{Name, Named}
+use Rattle.value_core.specs.Named.{Name, Named}
 
 -- what a run is of: a program and its limits
 pub record Setup : Type 0 where

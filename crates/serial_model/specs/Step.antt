@@ -2,7 +2,6 @@
 use Rattle.std.specs.Prelude.{ℕ, suc, ◌==◌, true, false, List, [], ◌∷◌, ◌++◌, Option, None, Some, unwrap_or, if◌then◌else◌}
 use Rattle.std.specs.List.{slice_get}
 use Rattle.std.specs.Option.{option_and_then, option_map}
-use Rattle.value_core.specs.Futures.{holds_future}
 use Rattle.value_core.specs.Place.{Spot}
 use Rattle.value_core.specs.declared.code.Code.{Code}
 use Rattle.value_core.specs.declared.code.Code.TheVariants as code
@@ -10,6 +9,7 @@ use Rattle.value_core.specs.declared.value.Value.{Value}
 use Rattle.value_core.specs.declared.value.Value.TheVariants as value
 use Rattle.core_syntax.specs.declared.node_id.NodeId.{NodeId}
 use Rattle.serial_model.specs.declared.actor_state.ActorState.{ActorState}
+use Rattle.serial_model.specs.declared.answer.Answer.{Answer}
 use Rattle.serial_model.specs.declared.answer.Answer.TheVariants as answer
 use Rattle.serial_model.specs.declared.effect.Effect.{Effect}
 use Rattle.serial_model.specs.declared.effect.What.{What}
@@ -22,12 +22,13 @@ use Rattle.serial_model.specs.declared.halt.Halt.{Halt}
 use Rattle.serial_model.specs.declared.halt.Halt.TheVariants as halt
 use Rattle.serial_model.specs.declared.request.Request.{Request}
 use Rattle.serial_model.specs.declared.request.Request.TheVariants as request
+use Rattle.serial_model.specs.Ahead.{answer_ahead}
 use Rattle.serial_model.specs.Eval.{next}
 use Rattle.serial_model.specs.Log.{Log}
-use Rattle.serial_model.specs.Named.{Name, named, with_named, over, made_by}
+use Rattle.value_core.specs.Named.{Name, named, with_named, over, made_by}
 use Rattle.serial_model.specs.State.{Setup, Becoming, UnitState, State, Queues, new_unit}
 use Rattle.serial_model.specs.Task as task
-use Rattle.serial_model.specs.Task.{Around, Result, transaction}
+use Rattle.serial_model.specs.Task.{Around, transaction}
 
 -- the state with this of one unit
 abbrev pub with_unit : State → Name → UnitState → State
@@ -79,11 +80,6 @@ spawned s actor behaviour state = record s { actors = with_named s.actors actor 
 abbrev pub becoming : UnitState → ℕ → List Value → UnitState
 becoming unit behaviour state = record unit { becomes = Some (record { behaviour = behaviour; state = state }) }
 
--- become and self are for turns alone
-abbrev pub in_turn : Option Name → State → (Name → State) → State
-in_turn None failed act = failed
-in_turn (Some actor) failed act = act actor
-
 -- the value of a finished unit
 abbrev pub value_of : State → Name → Option Value
 value_of s name = option_and_then (λ unit. unit.finished) (named name s.units)
@@ -115,40 +111,60 @@ abbrev pub commits : State → Name → UnitState → Log → Value → State
 commits s name unit log v =
     let done = take_effects name log.effects (record s { refs = over log.writes s.refs }) unit in gets done.0 name (with_made done.1) v
 
--- A transaction is one step: it is committed, or its end is the run's, or it waits. Its value may hold no future.
-abbrev pub after_transaction : State → Name → UnitState → Spot → Result → task.Outcome → Option State
-after_transaction s name unit at result (task.Value v) =
-    Some (if holds_future v then fails s name code.FutureEscapes at else commits s name unit result.log v)
-after_transaction s name unit at result (task.Fault failed place) = Some (fails s name failed place)
-after_transaction s name unit at result task.Spent = Some (ended s (end.Spent name))
-after_transaction s name unit at result task.Blocked = None
+-- a transaction is one step: it is committed, or its end is the run's, or it waits
+abbrev pub after_transaction : State → Name → UnitState → Log → task.Outcome → Option State
+after_transaction s name unit log (task.Value v) = Some (commits s name unit log v)
+after_transaction s name unit log (task.Fault failed place) = Some (fails s name failed place)
+after_transaction s name unit log task.Spent = Some (ended s (end.Spent name))
+after_transaction s name unit log task.Blocked = None
 
 abbrev pub transacts : Setup → State → Name → UnitState → Spot → NodeId → List Value → Option State
 transacts setup s name unit at body values =
-    let result = transaction (around setup s unit) (next_made name unit) body values in after_transaction s name unit at result result.outcome
+    let result = transaction (around setup s unit) (next_made name unit) at body values in after_transaction s name unit result.log result.outcome
 
 -- a value that is there is the answer; where none is, nothing is enabled
-abbrev pub gets_found : State → Name → UnitState → Option Value → Option State
-gets_found s name unit None = None
-gets_found s name unit (Some v) = Some (gets s name unit v)
+abbrev pub gets_if_there : State → Name → UnitState → Option Value → Option State
+gets_if_there s name unit None = None
+gets_if_there s name unit (Some v) = Some (gets s name unit v)
+
+-- the unit is given the answer; where that is a fault, the request's form fails
+abbrev pub gives : State → Name → UnitState → Spot → Answer → State
+gives s name unit at (answer.Value v) = gets s name unit v
+gives s name unit at (answer.Fault failed) = fails s name failed at
+
+-- what a request changes of the state besides its unit
+abbrev pub changed_by : State → Name → UnitState → Request → State
+changed_by s name unit (request.Print text) = record s { bytes = s.bytes ++ text }
+changed_by s name unit (request.NewRef v) = record s { refs = with_named s.refs (next_made name unit) v }
+changed_by s name unit (request.Fork body values) = with_unit s (next_made name unit) (new_unit None body values)
+changed_by s name unit (request.Spawn behaviour state) = spawned s (next_made name unit) behaviour state
+changed_by s name unit (request.Send actor message) = sent s actor name message
+changed_by s name unit _ = s
+
+-- what it changes of its unit, besides the answer
+abbrev pub unit_after : UnitState → Request → UnitState
+unit_after unit (request.NewRef v) = with_made unit
+unit_after unit (request.Fork body values) = with_made unit
+unit_after unit (request.Spawn behaviour state) = with_made unit
+unit_after unit (request.Become behaviour state) = becoming unit behaviour state
+unit_after unit _ = unit
+
+-- the request is done, and the unit is given the answer that is known ahead
+abbrev pub acts : State → Name → UnitState → Spot → Request → State
+acts s name unit at asked = on (answer_ahead unit.actor (next_made name unit) asked)
+  where
+    on : Option Answer → State
+    on None = s
+    on (Some given) = gives (changed_by s name unit asked) name (unit_after unit asked) at given
 
 -- what a unit's request does
 abbrev pub does : Setup → State → Name → UnitState → Spot → Request → Option State
-does setup s name unit at (request.Print text) = Some (gets (record s { bytes = s.bytes ++ text }) name unit value.Nil)
-does setup s name unit at (request.NewRef v) =
-    Some (gets (record s { refs = with_named s.refs (next_made name unit) v }) name (with_made unit) (value.Ref (next_made name unit)))
-does setup s name unit at (request.Deref ref) = gets_found s name unit (named ref s.refs)
+does setup s name unit at (request.Deref ref) = gets_if_there s name unit (named ref s.refs)
 does setup s name unit at (request.RefSet ref v) = Some (fails s name code.NoTransaction at)
-does setup s name unit at (request.Fork body values) =
-    Some (if_allowed setup s (λ s. gets (with_unit s (next_made name unit) (new_unit None body values)) name (with_made unit) (value.Future (next_made name unit))))
-does setup s name unit at (request.Join future) = gets_found s name unit (value_of s future)
+does setup s name unit at (request.Fork body values) = Some (if_allowed setup s (λ s. acts s name unit at (request.Fork body values)))
+does setup s name unit at (request.Join future) = gets_if_there s name unit (value_of s future)
 does setup s name unit at (request.Dosync body values) = transacts setup s name unit at body values
-does setup s name unit at (request.Spawn behaviour state) =
-    Some (gets (spawned s (next_made name unit) behaviour state) name (with_made unit) (value.Actor (next_made name unit)))
-does setup s name unit at (request.Send actor message) = Some (gets (sent s actor name message) name unit value.Nil)
-does setup s name unit at (request.Become behaviour state) =
-    Some (in_turn unit.actor (fails s name code.NoTurn at) (λ actor. gets s name (becoming unit behaviour state) value.Nil))
-does setup s name unit at request.SelfActor = Some (in_turn unit.actor (fails s name code.NoTurn at) (λ actor. gets s name unit (value.Actor actor)))
+does setup s name unit at asked = Some (acts s name unit at asked)
 
 -- an actor after its turn: idle, and what it becomes where that is said
 abbrev pub after_turn : Option Becoming → ActorState → ActorState

@@ -10,11 +10,14 @@ use Rattle.serial_model.specs.declared.end.End.TheVariants.{Done, Fault, Spent, 
 use Rattle.serial_model.specs.declared.entry.Entry.{Entry}
 use Rattle.serial_model.specs.declared.entry.Entry.TheVariants.{Run, Take}
 use Rattle.serial_model.specs.declared.trace.Trace.{Trace}
-use Rattle.serial_model.specs.declared.trace.TheConstants.{TRACE_LIMIT}
 use Rattle.serial_model.specs.declared.trace.LineKind.{LineKind}
 use Rattle.serial_model.specs.declared.trace.LineKind.TheVariants.{BadLine, TooLong}
 use Rattle.serial_model.specs.Limits.{Budget, IsInRange}
-use Rattle.serial_model.specs.Named.{Name}
+use Rattle.value_core.specs.Named.{Name}
+
+-- the most bytes that a trace is read from: 64 MiB
+abbrev pub trace_limit : ℕ
+trace_limit = 67108864
 
 -- one line: its text, and the line feed that ends it
 abbrev pub line_of : List ℕ → List ℕ
@@ -91,7 +94,7 @@ pub record IsTrace (t : Trace) : Type 0 where
 pub record IsTextOfTrace (t : Trace) (bytes : List ℕ) : Type 0 where
   pub is_trace : IsTrace t
   pub spelled : trace_text t ≡ bytes
-  pub short : length bytes ≤ TRACE_LIMIT
+  pub short : length bytes ≤ trace_limit
 
 -- the lines of bytes, each with the line feed that ends it, where it has one
 abbrev pub lines_of : List ℕ → List (List ℕ)
@@ -107,5 +110,5 @@ pub record FitsUpTo (count : ℕ) (bytes : List ℕ) : Type 0 where
 -- The bytes are refused with this kind at this line: as too long at line 1, and else at the first line in which they
 -- differ from the text of every trace.
 abbrev pub trace_refusal : List ℕ → LineKind → ℕ → Type 0
-trace_refusal bytes BadLine line = (length bytes ≤ TRACE_LIMIT) × FitsUpTo (line - 1) bytes × ¬ (FitsUpTo line bytes)
-trace_refusal bytes TooLong line = (TRACE_LIMIT < length bytes) × (line ≡ 1)
+trace_refusal bytes BadLine line = (length bytes ≤ trace_limit) × FitsUpTo (line - 1) bytes × ¬ (FitsUpTo line bytes)
+trace_refusal bytes TooLong line = (trace_limit < length bytes) × (line ≡ 1)

@@ -21,12 +21,9 @@ pub use entry::Entry;
 pub use halt::Halt;
 pub use history::History;
 pub use laws::{
-    entries_are_bounded, meets_no_misfit, none_is_over, none_is_stuck, nothing_waits,
-    units_are_begun,
+    bytes_grow, entries_are_bounded, meets_no_misfit, none_is_over, none_is_stuck, nothing_waits,
+    steps_suffice, tasks_are_begun, turns_are_last, units_are_begun, values_stay,
 };
 pub use limits::Limits;
 pub use request::Request;
-pub use trace::{LineKind, TRACE_LIMIT, Trace};
-
-#[cfg(test)]
-mod tests;
+pub use trace::{LineKind, Trace};

@@ -10,14 +10,11 @@ pub struct Trace {
     pub end: End,
 }
 
-/// The most bytes that a trace is read from.
-pub const TRACE_LIMIT: usize = 67_108_864;
-
 /// Why bytes are the text of no trace. The number of each is its position here, from 1.
 #[derive(Clone, Copy, Debug, PartialEq, Eq)]
 pub enum LineKind {
     /// That line is the first that does not fit.
     BadLine = 1,
-    /// There are more than `TRACE_LIMIT` bytes.
+    /// There are more bytes than a trace is read from.
     TooLong,
 }

@@ -11,13 +11,12 @@ use Rattle.sexpr_reader.specs.declared.frame.Frame.{Frame}
 use Rattle.sexpr_reader.specs.declared.group.Group.{Group}
 use Rattle.sexpr_reader.specs.declared.group.Group.TheVariants.{List as ListGroup, Vector, Map, At}
 use Rattle.sexpr_reader.specs.declared.group.Opened.{Opened}
-use Rattle.sexpr_reader.specs.declared.nest.TheConstants.{NEST_LIMIT}
-use Rattle.sexpr_reader.specs.declared.source.TheConstants.{SOURCE_LIMIT}
 use Rattle.sexpr_reader.specs.declared.token.TokenKind.{TokenKind}
 use Rattle.sexpr_reader.specs.declared.token.TokenKind.TheVariants.{Open, Close, Atom as AtomKind}
 use Rattle.sexpr_reader.specs.Cursor.{Cursor}
 use Rattle.sexpr_reader.specs.Forms.{form_at, atom_kind, Spells}
 use Rattle.sexpr_reader.specs.Grammar.{Stops, IsSource, IsRefused, source}
+use Rattle.sexpr_reader.specs.Limits.{nest_limit, source_limit}
 use Rattle.sexpr_reader.specs.Nest.{Nest, nest_of, opens_of, opened_of, frame_of, settled, shut_settled, IsInnermost, Moves, Blocks}
 use Rattle.sexpr_reader.specs.Opens.{Leaves}
 use Rattle.sexpr_reader.specs.Tokens.{IsEnd}
@@ -57,7 +56,7 @@ record Blocked (n : Nest) (at : Spot) (kind : TokenKind) : Type 0 where
   place : Spot
   is : Blocks n at kind why place
 
-open_by : (n : Nest) (at : Spot) (g : Group) → ((length n.frames < NEST_LIMIT) ⊎ (NEST_LIMIT ≤ length n.frames)) → Moved n at (Open g) ⊎ Blocked n at (Open g)
+open_by : (n : Nest) (at : Spot) (g : Group) → ((length n.frames < nest_limit) ⊎ (nest_limit ≤ length n.frames)) → Moved n at (Open g) ⊎ Blocked n at (Open g)
 open_by n at g (inl below) = inl (record { new = nest_of (frame_of (opened_of at g) n.forms ∷ n.frames) []; is = (below, refl) })
 open_by n at g (inr full) = inr (record { why = TooNested; place = at; is = (refl, refl, full) })
 
@@ -66,7 +65,7 @@ close_by n at g (inl is) = inl (record { new = shut_settled n; is = (is, refl) }
 close_by n at g (inr not) = inr (record { why = Unmatched; place = at; is = (refl, refl, not) })
 
 moves_or_blocks : (n : Nest) (at : Spot) (kind : TokenKind) → Moved n at kind ⊎ Blocked n at kind
-moves_or_blocks n at (Open g) = open_by n at g (cases_lt (length n.frames) NEST_LIMIT)
+moves_or_blocks n at (Open g) = open_by n at g (cases_lt (length n.frames) nest_limit)
 moves_or_blocks n at (Close g) = close_by n at g (innermost_or_not g n.frames)
 moves_or_blocks n at (AtomKind a) = inl (record { new = settled n.frames (n.forms ++ form_at at (atom_kind a) ∷ []); is = refl })
 
@@ -110,16 +109,16 @@ outcome whole = outcome_below whole (suc (length whole.rest)) (nest_of [] []) wh
 abbrev Either : List ℕ → Type 0
 Either bytes = ((forms : List Form) × IsSource bytes forms) ⊎ ((kind : ReadKind) × (at : Spot) × IsRefused bytes kind at)
 
-text_by : (bytes : List ℕ) → length bytes ≤ SOURCE_LIMIT → IsUtf8 bytes → Outcome (source bytes) → Either bytes
+text_by : (bytes : List ℕ) → length bytes ≤ source_limit → IsUtf8 bytes → Outcome (source bytes) → Either bytes
 text_by bytes within text (inl s) = inl (s.0, record { within = within; text = text; spelled = s.1 })
 text_by bytes within text (inr r) = inr (r.kind, r.at, IsRefused.token r.opens r.here within text r.leaves r.stops)
 
-bytes_by : (bytes : List ℕ) (t : Bool) → length bytes ≤ SOURCE_LIMIT → is_utf8 bytes ≡ t → Either bytes
+bytes_by : (bytes : List ℕ) (t : Bool) → length bytes ≤ source_limit → is_utf8 bytes ≡ t → Either bytes
 bytes_by bytes true within e = text_by bytes within (IsUtf8-from_is_utf8 bytes e) (outcome (source bytes))
 bytes_by bytes false within e = inr (_, _, IsRefused.no_text within (λ u. absurd (let x = is_utf8-from_IsUtf8 bytes u in cc)))
 
 pub every_text : (bytes : List ℕ) → Either bytes
-every_text bytes = by (cases_lt SOURCE_LIMIT (length bytes)) where
-  by : ((SOURCE_LIMIT < length bytes) ⊎ (length bytes ≤ SOURCE_LIMIT)) → Either bytes
+every_text bytes = by (cases_lt source_limit (length bytes)) where
+  by : ((source_limit < length bytes) ⊎ (length bytes ≤ source_limit)) → Either bytes
   by (inl long) = inr (_, _, IsRefused.too_long long)
   by (inr within) = bytes_by bytes (is_utf8 bytes) within refl

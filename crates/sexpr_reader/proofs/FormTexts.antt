@@ -7,7 +7,6 @@ use Rattle.sexpr_reader.specs.declared.form.Form.{Form}
 use Rattle.sexpr_reader.specs.declared.group.Group.{Group}
 use Rattle.sexpr_reader.specs.declared.group.Group.TheVariants.{List as ListGroup, Vector, Map, At}
 use Rattle.sexpr_reader.specs.declared.lead.Lead.TheVariants as lead
-use Rattle.sexpr_reader.specs.declared.nest.TheConstants.{NEST_LIMIT}
 use Rattle.sexpr_reader.specs.declared.token.Atom.{Atom}
 use Rattle.sexpr_reader.specs.declared.token.Token.{Token}
 use Rattle.sexpr_reader.specs.declared.token.TokenKind.{TokenKind}
@@ -16,6 +15,7 @@ use Rattle.sexpr_reader.specs.Cursor.{Cursor, start, next_spot}
 use Rattle.sexpr_reader.specs.Forms.{form_at, group_kind, atom_kind, IsForm, AreForms, Spells}
 use Rattle.sexpr_reader.specs.Gap.{Gap}
 use Rattle.sexpr_reader.specs.Lead.{begins, lead_of, is_sign, is_white_space, is_word_byte}
+use Rattle.sexpr_reader.specs.Limits.{nest_limit}
 use Rattle.sexpr_reader.specs.Places.{without_places}
 use Rattle.sexpr_reader.specs.Spelling.{grouped, kind_text, form_text, spelling}
 use Rattle.sexpr_reader.specs.Steps.{gap_class}
@@ -110,7 +110,7 @@ record AgainAll (k : ℕ) (is_first : Bool) (forms : List Form) (at : Spot) (res
   are : AreForms k (cursor at (left_at is_first (map form_text forms) ++ rest)) again (cursor behind rest)
   same : map without_places again ≡ map without_places forms
 
-bracket_form : (k : ℕ) (spot : Spot) (g : Group) (parts : List Form) (b : Bracket g) → k < NEST_LIMIT → g ≢ At → (at : Spot) (rest : List ℕ)
+bracket_form : (k : ℕ) (spot : Spot) (g : Group) (parts : List Form) (b : Bracket g) → k < nest_limit → g ≢ At → (at : Spot) (rest : List ℕ)
     → AgainAll (suc k) true parts (next_spot at b.opens) (b.closes ∷ rest) → Again k (form_at spot (group_kind g parts)) at rest
 bracket_form k spot g parts b below n at rest r =
     let inner = left_at true (map form_text parts) in
@@ -128,7 +128,7 @@ bracket_form k spot g parts b below n at rest r =
       first = rw text (no_white (b.opens ∷ (inner ++ b.closes ∷ rest)) (no_gap opening));
     }
 
-sign_form : (k : ℕ) (spot : Spot) (part : Form) → k < NEST_LIMIT → (at : Spot) (rest : List ℕ) → Again (suc k) part (next_spot at 64) rest → Again k (form_at spot (group_kind At (part ∷ []))) at rest
+sign_form : (k : ℕ) (spot : Spot) (part : Form) → k < nest_limit → (at : Spot) (rest : List ℕ) → Again (suc k) part (next_spot at 64) rest → Again k (form_at spot (group_kind At (part ∷ []))) at rest
 sign_form k spot part below at rest r =
     let inner = form_text part in
     let opening = opens_as At at 64 (inner ++ rest) refl in

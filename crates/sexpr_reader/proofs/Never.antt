@@ -10,7 +10,6 @@ use Rattle.sexpr_reader.specs.declared.group.Group.{Group}
 use Rattle.sexpr_reader.specs.declared.group.Opened.{Opened}
 use Rattle.sexpr_reader.specs.declared.lead.Lead.{Lead}
 use Rattle.sexpr_reader.specs.declared.lead.Lead.TheVariants as lead
-use Rattle.sexpr_reader.specs.declared.nest.TheConstants.{NEST_LIMIT}
 use Rattle.sexpr_reader.specs.declared.token.Token.{Token}
 use Rattle.sexpr_reader.specs.declared.token.TokenKind.{TokenKind}
 use Rattle.sexpr_reader.specs.declared.token.TokenKind.TheVariants.{Open, Close, Atom as AtomKind}
@@ -20,6 +19,7 @@ use Rattle.sexpr_reader.specs.Forms.{form_at, atom_kind, IsForm, AreForms}
 use Rattle.sexpr_reader.specs.Grammar.{IsOther, Stops, IsSource, IsRefused}
 use Rattle.sexpr_reader.specs.Integer.{IsInteger}
 use Rattle.sexpr_reader.specs.Lead.{begins, lead_of, is_word_byte}
+use Rattle.sexpr_reader.specs.Limits.{nest_limit}
 use Rattle.sexpr_reader.specs.Names.{IsName, Misfit}
 use Rattle.sexpr_reader.specs.Nest.{Nest, nest_of, opens_of, opened_of, frame_of, group_form, settled}
 use Rattle.sexpr_reader.specs.Opens.{is_at, without_ats, Leaves}
@@ -148,13 +148,13 @@ unmatched_fails [] forms t g all tok kind other fresh r = top_closes r.0 t g tok
 unmatched_fails (f ∷ fs) forms t g all tok kind other fresh r = other ((close_out f fs forms t g all tok kind fresh r).groups)
 
 -- an opening too many
-open_below : {k : ℕ} {c d m : Cursor} {form : Form} (t : Token) (g : Group) → IsToken c t d → t.kind ≡ Open g → IsForm k c form m → k < NEST_LIMIT
+open_below : {k : ℕ} {c d m : Cursor} {form : Form} (t : Token) (g : Group) → IsToken c t d → t.kind ≡ Open g → IsForm k c form m → k < nest_limit
 open_below t g tok kind (IsForm.atom u b other also is) =
     absurd (let x : AtomKind b ≡ Open g = sym also ∙ ap (λ y. y.kind) ((IsToken-same other tok).tokens) ∙ kind in cc)
 open_below t g tok kind (IsForm.bracket u v h parts below n other also fs close k is) = below
 open_below t g tok kind (IsForm.at_sign u part below other also p is) = below
 
-nested_fails : (frames : List Frame) (forms : List Form) {c d : Cursor} (t : Token) (g : Group) (all : List Form) → IsToken c t d → t.kind ≡ Open g → NEST_LIMIT ≤ length (opens_of frames)
+nested_fails : (frames : List Frame) (forms : List Form) {c d : Cursor} (t : Token) (g : Group) (all : List Form) → IsToken c t d → t.kind ≡ Open g → nest_limit ≤ length (opens_of frames)
     → Fresh frames forms → Rest frames forms c all → ⊥
 nested_fails frames forms t g all tok kind full fresh r =
     let n = next_of frames forms all tok (λ h e. let x = sym kind ∙ e in cc) fresh r in
@@ -179,7 +179,7 @@ stops_fails : (frames : List Frame) (forms : List Form) {c : Cursor} {os : List 
     → Fresh frames forms → Rest frames forms c all → ⊥
 stops_fails frames forms all (Stops.no_token a) e fresh r = nothing_fails frames forms all a fresh r
 stops_fails frames forms all (Stops.unmatched t g tok kind other) e fresh r = unmatched_fails frames forms t g all tok kind (subst (λ x. IsOther x g) e other) fresh r
-stops_fails frames forms all (Stops.too_nested t g tok kind full) e fresh r = nested_fails frames forms t g all tok kind (subst (λ x. NEST_LIMIT ≤ length x) e full) fresh r
+stops_fails frames forms all (Stops.too_nested t g tok kind full) e fresh r = nested_fails frames forms t g all tok kind (subst (λ x. nest_limit ≤ length x) e full) fresh r
 stops_fails frames forms all (Stops.unclosed {os} o a) e fresh r = unclosed_fails frames forms o os all a e fresh r
 
 -- what tokens leave open, a reader holds
@@ -210,7 +210,7 @@ reached (Leaves.opening {os} t g l tok kind below) =
     record {
       nest = nest_of (frame_of (opened_of t.at g) r.nest.forms ∷ r.nest.frames) [];
       opens = ap (λ x. opened_of t.at g ∷ x) r.opens;
-      so_far = take_open r.nest.frames r.nest.forms t g r.so_far tok kind (subst (λ x. x < NEST_LIMIT) count below);
+      so_far = take_open r.nest.frames r.nest.forms t g r.so_far tok kind (subst (λ x. x < nest_limit) count below);
     }
 reached (Leaves.closing {os} t o l tok kind) = let r = reached l in reached_close r.nest.frames r.nest.forms o os t r.so_far r.opens tok kind
 reached (Leaves.atom t a l tok kind) =

@@ -5,7 +5,6 @@ use Rattle.sexpr_reader.specs.declared.error.ReadKind.{ReadKind}
 use Rattle.sexpr_reader.specs.declared.group.Group.{Group}
 use Rattle.sexpr_reader.specs.declared.group.Opened.{Opened}
 use Rattle.sexpr_reader.specs.declared.lead.Lead.{Lead}
-use Rattle.sexpr_reader.specs.declared.nest.TheConstants.{NEST_LIMIT}
 use Rattle.sexpr_reader.specs.declared.token.Atom.{Atom}
 use Rattle.sexpr_reader.specs.declared.token.Token.{Token}
 use Rattle.sexpr_reader.specs.declared.token.TokenKind.TheVariants.{Open, Close, Atom as AtomKind}
@@ -13,6 +12,7 @@ use Rattle.sexpr_reader.specs.Bytes.{is_later_byte}
 use Rattle.sexpr_reader.specs.Cursor.{Cursor}
 use Rattle.sexpr_reader.specs.Grammar.{Stops, IsRefused}
 use Rattle.sexpr_reader.specs.Lead.{begins, lead_of, is_word_byte}
+use Rattle.sexpr_reader.specs.Limits.{nest_limit}
 use Rattle.sexpr_reader.specs.Names.{Misfit}
 use Rattle.sexpr_reader.specs.Opens.{without_ats, Leaves}
 use Rattle.sexpr_reader.specs.Strings.{Content, StringStops}
@@ -24,7 +24,7 @@ use Rattle.sexpr_reader.proofs.Unique.{kinds_of}
 
 -- a token more
 data Step : List Opened → Cursor → List Opened → Cursor → Type 0 where
-  opening : {c e : Cursor} {os : List Opened} (t : Token) (g : Group) → IsToken c t e → t.kind ≡ Open g → length os < NEST_LIMIT → Step os c (record { at = t.at; group = g } ∷ os) e
+  opening : {c e : Cursor} {os : List Opened} (t : Token) (g : Group) → IsToken c t e → t.kind ≡ Open g → length os < nest_limit → Step os c (record { at = t.at; group = g } ∷ os) e
   closing : {c e : Cursor} {os : List Opened} (t : Token) (o : Opened) → IsToken c t e → t.kind ≡ Close o.group → Step (o ∷ os) c (without_ats os) e
   atom : {c e : Cursor} {os : List Opened} (t : Token) (a : Atom) → IsToken c t e → t.kind ≡ AtomKind a → Step os c (without_ats os) e
 

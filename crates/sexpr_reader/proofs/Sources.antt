@@ -13,7 +13,6 @@ use Rattle.sexpr_reader.specs.declared.form.Form.{Form}
 use Rattle.sexpr_reader.specs.declared.frame.Frame.{Frame}
 use Rattle.sexpr_reader.specs.declared.group.Group.{Group}
 use Rattle.sexpr_reader.specs.declared.group.Group.TheVariants.{List as ListGroup, Vector, Map, At}
-use Rattle.sexpr_reader.specs.declared.nest.TheConstants.{NEST_LIMIT}
 use Rattle.sexpr_reader.specs.declared.token.Atom.{Atom}
 use Rattle.sexpr_reader.specs.declared.token.Token.{Token}
 use Rattle.sexpr_reader.specs.declared.token.TokenKind.{TokenKind}
@@ -21,8 +20,8 @@ use Rattle.sexpr_reader.specs.declared.token.TokenKind.TheVariants.{Open, Close,
 use Rattle.sexpr_reader.specs.Cursor.{Cursor, start, after}
 use Rattle.sexpr_reader.specs.Forms.{form_at, group_kind, atom_kind, IsForm, AreForms, Spells}
 use Rattle.sexpr_reader.specs.Grammar.{IsOther, Stops, RefusedAs, IsRefused, source}
+use Rattle.sexpr_reader.specs.Limits.{nest_limit, source_limit}
 use Rattle.sexpr_reader.specs.Steps.{IsNext}
-use Rattle.sexpr_reader.specs.declared.source.TheConstants.{SOURCE_LIMIT}
 use Rattle.sexpr_reader.specs.Nest.{Nest, nest_of, opened_of, frame_of, group_form, opens_of, settled, IsInnermost, Moves, Blocks, Finishes}
 use Rattle.sexpr_reader.specs.Opens.{is_at, without_ats, Leaves}
 use Rattle.sexpr_reader.specs.Tokens.{IsToken, IsEnd}
@@ -192,7 +191,7 @@ open_out frames forms t g all tok kind fresh r =
     open_next frames forms t g all tok kind n.is n.rest
 
 open_back : (frames : List Frame) (forms more : List Form) (d : Cursor) {c i j : Cursor} (t : Token) (g : Group) (all : List Form)
-    → IsToken c t i → t.kind ≡ Open g → length frames < NEST_LIMIT → AreForms (suc (length frames)) i more j → Ends g more j d
+    → IsToken c t i → t.kind ≡ Open g → length frames < nest_limit → AreForms (suc (length frames)) i more j → Ends g more j d
     → Rest frames (forms ++ group_form (opened_of t.at g) more ∷ []) d all → Rest frames forms c all
 unfolding Ends
 open_back frames forms more d {c} t g all tok kind below fs (inr b) r =
@@ -208,7 +207,7 @@ open_back frames forms (p ∷ []) d {c} {i} t g all tok kind below (AreForms.mor
 open_back frames forms (p ∷ q ∷ ps) d t g all tok kind below fs (inl a) r = absurd (omega (arith, a.2))
 
 open_in : (frames : List Frame) (forms : List Form) {c i : Cursor} (t : Token) (g : Group) (all : List Form)
-    → IsToken c t i → t.kind ≡ Open g → length frames < NEST_LIMIT → Rest (frame_of (opened_of t.at g) forms ∷ frames) [] i all → Rest frames forms c all
+    → IsToken c t i → t.kind ≡ Open g → length frames < nest_limit → Rest (frame_of (opened_of t.at g) forms ∷ frames) [] i all → Rest frames forms c all
 unfolding Rest
 open_in frames forms t g all tok kind below r = open_back frames forms r.0 r.2 t g all tok kind below r.3 r.4 r.5
 
@@ -332,7 +331,7 @@ SoFar-begin whole = record {
 }
 
 pub take_open : {whole c d : Cursor} (frames : List Frame) (forms : List Form) (t : Token) (g : Group) → SoFar whole (nest_of frames forms) c → IsToken c t d → t.kind ≡ Open g
-    → length frames < NEST_LIMIT → SoFar whole (nest_of (frame_of (opened_of t.at g) forms ∷ frames) []) d
+    → length frames < nest_limit → SoFar whole (nest_of (frame_of (opened_of t.at g) forms ∷ frames) []) d
 unfolding Fresh
 take_open frames forms t g s tok kind below = record {
   leaves = Leaves.opening t g s.leaves tok kind (rw length-map below);
@@ -383,7 +382,7 @@ other_opens (f ∷ fs) g n = n
 stops_kind : (kind : TokenKind) {c d : Cursor} (frames : List Frame) (forms : List Form) (t : Token) (why : ReadKind) (at : Spot) → IsToken c t d → t.kind ≡ kind
     → Blocks (nest_of frames forms) t.at kind why at → Stops c (opens_of frames) why at
 stops_kind (Open g) frames forms t why at tok is b =
-    let full : NEST_LIMIT ≤ length (opens_of frames) = rw (length-map frames (λ (f : Frame). f.opened)) b.2 in
+    let full : nest_limit ≤ length (opens_of frames) = rw (length-map frames (λ (f : Frame). f.opened)) b.2 in
     rw (b.0, b.1) (Stops.too_nested t g tok is full)
 stops_kind (Close g) frames forms t why at tok is b = rw (b.0, b.1) (Stops.unmatched t g tok is (other_opens frames g b.2))
 stops_kind (AtomKind a) frames forms t why at tok is b = absurd b
@@ -412,13 +411,13 @@ SoFar-all whole c forms s e all h =
     sym (append-nil forms) ∙ ap (λ x. forms ++ x) (sym nothing) ∙ sym r.2
 
 -- bytes that are no text
-pub text_fails : {A : Type 0} (bytes : List ℕ) (r : Result A ReadNo) → length bytes ≤ SOURCE_LIMIT
+pub text_fails : {A : Type 0} (bytes : List ℕ) (r : Result A ReadNo) → length bytes ≤ source_limit
     → IfErr r (λ error. ¬ IsUtf8 bytes × (error ≡ Refused BadByte (after start (take (utf8_valid_len bytes) bytes)))) → IfErr r (RefusedAs (IsRefused bytes))
 text_fails bytes (Ok x) within h = tt
 text_fails bytes (Err error) within h = rw h.1 (IsRefused.no_text within h.0)
 
 -- what becomes of the steps of a reader
-module _ (bytes : List ℕ) (c : Cursor) (within : length bytes ≤ SOURCE_LIMIT) (text : IsUtf8 bytes) where
+module _ (bytes : List ℕ) (c : Cursor) (within : length bytes ≤ source_limit) (text : IsUtf8 bytes) where
   refused_at : (n : Nest) (kind : ReadKind) (at : Spot) → SoFar (source bytes) n c → Stops c (opens_of n.frames) kind at → IsRefused bytes kind at
   refused_at n kind at s stops = IsRefused.token (opens_of n.frames) c within text s.leaves stops
 

@@ -5,10 +5,10 @@ use Rattle.std.proofs.lemmas.Str.{IsUtf8-nil, IsUtf8-append}
 use Rattle.sexpr_reader.specs.declared.form.Form.{Form}
 use Rattle.sexpr_reader.specs.declared.group.Group.{Group}
 use Rattle.sexpr_reader.specs.declared.group.Group.TheVariants.{List as ListGroup, Vector, Map, At}
-use Rattle.sexpr_reader.specs.declared.source.TheConstants.{SOURCE_LIMIT}
 use Rattle.sexpr_reader.specs.Cursor.{Cursor, start}
 use Rattle.sexpr_reader.specs.Forms.{group_kind, IsForm, AreForms}
 use Rattle.sexpr_reader.specs.Grammar.{IsSource}
+use Rattle.sexpr_reader.specs.Limits.{source_limit}
 use Rattle.sexpr_reader.specs.Places.{without_places}
 use Rattle.sexpr_reader.specs.Spelling.{spaced, grouped, kind_text, form_text, spelling}
 use Rattle.sexpr_reader.proofs.FormFolds.{kind_text-List, kind_text-Vector, kind_text-Map, kind_text-At, form_text-at}
@@ -74,7 +74,7 @@ lines_text [] h = IsUtf8-nil
 lines_text (f ∷ fs) h =
     IsUtf8-append (form_text f ++ 10 ∷ []) (spelling fs) (IsUtf8-append (form_text f) (10 ∷ []) h.0 (ascii_then 10 [] (omega arith) IsUtf8-nil)) (lines_text fs h.1)
 
-pub reads_again : (bytes : List ℕ) (forms : List Form) → IsSource bytes forms → length (spelling forms) ≤ SOURCE_LIMIT
+pub reads_again : (bytes : List ℕ) (forms : List Form) → IsSource bytes forms → length (spelling forms) ≤ source_limit
     → (again : List Form) × IsSource (spelling forms) again × (map without_places again ≡ map without_places forms)
 reads_again bytes forms s short =
     let lines = lines_again s.spelled.forms_to start in

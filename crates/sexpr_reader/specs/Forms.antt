@@ -6,12 +6,12 @@ use Rattle.sexpr_reader.specs.declared.form.FormKind.{FormKind}
 use Rattle.sexpr_reader.specs.declared.form.FormKind.TheVariants as form
 use Rattle.sexpr_reader.specs.declared.group.Group.{Group}
 use Rattle.sexpr_reader.specs.declared.group.Group.TheVariants.{List as ListGroup, Vector, Map, At}
-use Rattle.sexpr_reader.specs.declared.nest.TheConstants.{NEST_LIMIT}
 use Rattle.sexpr_reader.specs.declared.token.Atom.{Atom}
 use Rattle.sexpr_reader.specs.declared.token.Atom.TheVariants as single
 use Rattle.sexpr_reader.specs.declared.token.Token.{Token}
 use Rattle.sexpr_reader.specs.declared.token.TokenKind.TheVariants.{Open, Close, Atom as AtomKind}
 use Rattle.sexpr_reader.specs.Cursor.{Cursor}
+use Rattle.sexpr_reader.specs.Limits.{nest_limit}
 use Rattle.sexpr_reader.specs.Tokens.{IsToken, IsEnd}
 
 abbrev pub form_at : Spot → FormKind → Form
@@ -36,10 +36,10 @@ mutual
   pub data IsForm : ℕ → Cursor → Form → Cursor → Type 0 where
     atom : {k : ℕ} {c d : Cursor} {f : Form} (t : Token) (a : Atom) → IsToken c t d → t.kind ≡ AtomKind a
         → f ≡ form_at t.at (atom_kind a) → IsForm k c f d
-    bracket : {k : ℕ} {c i j d : Cursor} {f : Form} (t u : Token) (g : Group) (parts : List Form) → k < NEST_LIMIT → g ≢ At
+    bracket : {k : ℕ} {c i j d : Cursor} {f : Form} (t u : Token) (g : Group) (parts : List Form) → k < nest_limit → g ≢ At
         → IsToken c t i → t.kind ≡ Open g → AreForms (suc k) i parts j → IsToken j u d → u.kind ≡ Close g
         → f ≡ form_at t.at (group_kind g parts) → IsForm k c f d
-    at_sign : {k : ℕ} {c i d : Cursor} {f : Form} (t : Token) (part : Form) → k < NEST_LIMIT
+    at_sign : {k : ℕ} {c i d : Cursor} {f : Form} (t : Token) (part : Form) → k < nest_limit
         → IsToken c t i → t.kind ≡ Open At → IsForm (suc k) i part d
         → f ≡ form_at t.at (group_kind At (part ∷ [])) → IsForm k c f d
 

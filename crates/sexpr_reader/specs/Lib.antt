@@ -4,7 +4,9 @@ pub mod Forms
 pub mod Gap
 pub mod Grammar
 pub mod Integer
+pub mod Kinds
 pub mod Lead
+pub mod Limits
 pub mod Names
 pub mod Nest
 pub mod Opens

@@ -10,10 +10,10 @@ use Rattle.sexpr_reader.specs.declared.frame.Frame.{Frame}
 use Rattle.sexpr_reader.specs.declared.group.Group.{Group}
 use Rattle.sexpr_reader.specs.declared.group.Opened.{Opened}
 use Rattle.sexpr_reader.specs.declared.nest.Nest.{Nest as Stack}
-use Rattle.sexpr_reader.specs.declared.nest.TheConstants.{NEST_LIMIT}
 use Rattle.sexpr_reader.specs.declared.token.TokenKind.{TokenKind}
 use Rattle.sexpr_reader.specs.declared.token.TokenKind.TheVariants.{Open, Close, Atom}
 use Rattle.sexpr_reader.specs.Forms.{form_at, group_kind, atom_kind}
+use Rattle.sexpr_reader.specs.Limits.{nest_limit}
 use Rattle.sexpr_reader.specs.Opens.{is_at}
 
 -- what is open, the innermost first, and the forms that are complete in the innermost
@@ -61,13 +61,13 @@ IsInnermost g (f ∷ frames) = f.opened.group ≡ g
 
 -- what a token makes of a nest
 abbrev pub Moves : Nest → Spot → TokenKind → Nest → Type 0
-Moves old at (Open g) new = (length old.frames < NEST_LIMIT) × (new ≡ nest_of (frame_of (opened_of at g) old.forms ∷ old.frames) [])
+Moves old at (Open g) new = (length old.frames < nest_limit) × (new ≡ nest_of (frame_of (opened_of at g) old.forms ∷ old.frames) [])
 Moves old at (Close g) new = IsInnermost g old.frames × (new ≡ shut_settled old)
 Moves old at (Atom a) new = new ≡ settled old.frames (old.forms ++ form_at at (atom_kind a) ∷ [])
 
 -- why a nest does not take a token
 abbrev pub Blocks : Nest → Spot → TokenKind → ReadKind → Spot → Type 0
-Blocks old at (Open g) kind place = (kind ≡ TooNested) × (place ≡ at) × (NEST_LIMIT ≤ length old.frames)
+Blocks old at (Open g) kind place = (kind ≡ TooNested) × (place ≡ at) × (nest_limit ≤ length old.frames)
 Blocks old at (Close g) kind place = (kind ≡ Unmatched) × (place ≡ at) × (IsInnermost g old.frames → ⊥)
 Blocks old at (Atom a) kind place = ⊥
 

@@ -1,9 +1,10 @@
 ghost use Rattle.std.specs.Prelude.{◌≡◌};
+ghost use Rattle.sexpr_reader.specs.Kinds.{kind_number};
 
 use thiserror::Error;
 use value_core::Place;
 
-/// Why a source is refused. The numbers are those that programs show.
+/// Why a source is refused.
 #[derive(Clone, Copy, Debug, PartialEq, Eq)]
 pub enum ReadKind {
     /// A byte does not fit: the text is not UTF-8, or no name has this byte here.
@@ -20,6 +21,23 @@ pub enum ReadKind {
     TooNested,
     /// The source has more than `SOURCE_LIMIT` bytes.
     TooLong,
+}
+
+impl ReadKind {
+    /// The number of the refusal, from 1 to 7.
+    pub fn number(self) -> u8
+        ensures { result ≡ kind_number self }
+    {
+        match self {
+            ReadKind::BadByte => 1,
+            ReadKind::Unclosed => 2,
+            ReadKind::Unmatched => 3,
+            ReadKind::BadNumber => 4,
+            ReadKind::BadString => 5,
+            ReadKind::TooNested => 6,
+            ReadKind::TooLong => 7,
+        }
+    }
 }
 
 /// Why `read` gives no forms.

@@ -2,7 +2,7 @@ ghost use Rattle.std.specs.Prelude.{◌≡◌, ◌≤◌, ◌⊎◌, ℕ, List, 
 ghost use Rattle.value_core.specs.Place.{Spot};
 ghost use Rattle.sexpr_reader.specs.declared.error.ReadKind.{ReadKind};
 ghost use Rattle.sexpr_reader.specs.declared.form.Form.{Form};
-ghost use Rattle.sexpr_reader.specs.declared.source.TheConstants.{SOURCE_LIMIT};
+ghost use Rattle.sexpr_reader.specs.Limits.{source_limit};
 ghost use Rattle.sexpr_reader.specs.Grammar.{IsSource, IsRefused};
 ghost use Rattle.sexpr_reader.specs.Places.{without_places};
 ghost use Rattle.sexpr_reader.specs.Spelling.{spelling};
@@ -30,5 +30,5 @@ pub fn every_text()
 /// The law that the spelling of forms that some bytes spell, where it is within the limit, spells the same forms again,
 /// their places aside.
 pub fn spelled_again()
-    ensures { (bytes : List ℕ) (forms : List Form) → IsSource bytes forms → length (spelling forms) ≤ SOURCE_LIMIT → (again : List Form) × IsSource (spelling forms) again × (map without_places again ≡ map without_places forms) }
+    ensures { (bytes : List ℕ) (forms : List Form) → IsSource bytes forms → length (spelling forms) ≤ source_limit → (again : List Form) × IsSource (spelling forms) again × (map without_places again ≡ map without_places forms) }
 {}

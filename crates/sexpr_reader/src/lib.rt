@@ -13,8 +13,6 @@ mod nest;
 mod reader;
 mod source;
 mod spelling;
-#[cfg(test)]
-mod tests;
 mod token;
 
 pub use error::{ReadKind, ReadNo};

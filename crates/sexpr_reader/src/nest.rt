@@ -1,6 +1,7 @@
 ghost use Rattle.std.specs.Prelude.{◌≡◌, ◌≢◌, ◌≤◌, ◌<◌, ◌↔◌, [], ◌∷◌, ◌++◌, length, IsTrue, IfOk, IfErr};
 ghost use Rattle.sexpr_reader.specs.Forms.{form_at, group_kind, atom_kind};
 ghost use Rattle.sexpr_reader.specs.Grammar.{RefusedAs};
+ghost use Rattle.sexpr_reader.specs.Limits.{nest_limit};
 ghost use Rattle.sexpr_reader.specs.Nest.{seen, nest_of, frame_of, group_form, shut, shut_settled, settled, IsInnermost, Moves, Blocks, Finishes};
 ghost use Rattle.sexpr_reader.specs.declared.error.ReadNo.TheVariants.{Memory};
 
@@ -57,8 +58,8 @@ impl Nest {
     }
 
     fn begin(&mut self, alloc: Global, opened: Opened) -> Result<(), ReadNo>
-        ensures ok { IfOk result (λ _. (length (seen self.old).frames < NEST_LIMIT) × (seen self.new ≡ nest_of (frame_of opened (seen self.old).forms ∷ (seen self.old).frames) [])) }
-        ensures err { IfErr result (RefusedAs (λ kind at. (kind ≡ ReadKind.TooNested) × (at ≡ opened.at) × (NEST_LIMIT ≤ length (seen self.old).frames))) }
+        ensures ok { IfOk result (λ _. (length (seen self.old).frames < nest_limit) × (seen self.new ≡ nest_of (frame_of opened (seen self.old).forms ∷ (seen self.old).frames) [])) }
+        ensures err { IfErr result (RefusedAs (λ kind at. (kind ≡ ReadKind.TooNested) × (at ≡ opened.at) × (nest_limit ≤ length (seen self.old).frames))) }
     {
         if self.open.len() >= NEST_LIMIT {
             return Err(refused(ReadKind::TooNested, opened.at));

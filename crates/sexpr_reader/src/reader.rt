@@ -5,7 +5,7 @@ ghost use Rattle.sexpr_reader.specs.Gap.{Gap};
 ghost use Rattle.sexpr_reader.specs.Lead.{begins, lead_of};
 ghost use Rattle.sexpr_reader.specs.Runs.{IsRun};
 ghost use Rattle.sexpr_reader.specs.Steps.{gap_class};
-ghost use Rattle.sexpr_reader.specs.declared.source.TheConstants.{SOURCE_LIMIT};
+ghost use Rattle.sexpr_reader.specs.Limits.{source_limit};
 
 use crate::lead::{Class, Lead, lead_of};
 use std::marker::Model;
@@ -13,8 +13,8 @@ use value_core::Place;
 
 /// The line and the column after a byte.
 fn place_after(line: u32, column: u32, byte: u8) -> (u32, u32)
-    requires lines { line ≤ SOURCE_LIMIT }
-    requires columns { column ≤ SOURCE_LIMIT }
+    requires lines { line ≤ source_limit }
+    requires columns { column ≤ source_limit }
     ensures { record { line = result.0; column = result.1 } ≡ next_spot (record { line = line; column = column }) byte }
 {
     if byte == b'\n' {
@@ -35,18 +35,18 @@ pub struct Reader<'a> {
 impl<'a> Model for Reader<'a> {
     ghost use Rattle.std.specs.Prelude.{◌+◌, ◌≤◌, length};
     ghost use Rattle.sexpr_reader.specs.Cursor.{Cursor};
-    ghost use Rattle.sexpr_reader.specs.declared.source.TheConstants.{SOURCE_LIMIT};
+    ghost use Rattle.sexpr_reader.specs.Limits.{source_limit};
 
     ghost Value = { Cursor };
 
     ghost view = { λ r. record { at = record { line = r.line; column = r.column }; rest = r.rest.now } };
 
-    ghost invariant = { λ r. (1 ≤ r.line) × (1 ≤ r.column) × (r.line + length r.rest.now ≤ SOURCE_LIMIT + 1) × (r.column + length r.rest.now ≤ SOURCE_LIMIT + 1) };
+    ghost invariant = { λ r. (1 ≤ r.line) × (1 ≤ r.column) × (r.line + length r.rest.now ≤ source_limit + 1) × (r.column + length r.rest.now ≤ source_limit + 1) };
 }
 
 impl<'a> Reader<'a> {
     pub fn new(bytes: &'a [u8]) -> Self
-        requires { length bytes.now ≤ SOURCE_LIMIT }
+        requires { length bytes.now ≤ source_limit }
         ensures { result ≡ record { at = start; rest = bytes.now } }
     {
         Reader {

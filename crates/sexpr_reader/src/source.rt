@@ -5,6 +5,7 @@ ghost use Rattle.sexpr_reader.specs.declared.form.Form.{Form};
 ghost use Rattle.sexpr_reader.specs.Cursor.{start, after};
 ghost use Rattle.sexpr_reader.specs.Forms.{Spells};
 ghost use Rattle.sexpr_reader.specs.Grammar.{IsSource, IsRefused, RefusedAs, source};
+ghost use Rattle.sexpr_reader.specs.Limits.{source_limit};
 
 use crate::error::{ReadKind, ReadNo, refused};
 use crate::form::Forms;
@@ -42,7 +43,7 @@ fn too_long() -> ReadNo
 
 /// Checks that the bytes are UTF-8, and refuses the first byte that does not fit where they are not.
 fn expect_text(bytes: &[u8]) -> Result<(), ReadNo>
-    requires { length bytes.now ≤ SOURCE_LIMIT }
+    requires { length bytes.now ≤ source_limit }
     ensures text { IfOk result (λ _. IsUtf8 bytes.now) }
     ensures refused { IfErr result (λ error. ¬ IsUtf8 bytes.now × (error ≡ ReadNo.Refused ReadKind.BadByte (after start (take (utf8_valid_len bytes.now) bytes.now)))) }
 {
@@ -54,7 +55,7 @@ fn expect_text(bytes: &[u8]) -> Result<(), ReadNo>
 
 /// The place of the byte with this index.
 fn place_of(bytes: &[u8], index: usize) -> Place
-    requires limit { length bytes.now ≤ SOURCE_LIMIT }
+    requires limit { length bytes.now ≤ source_limit }
     requires within { index ≤ length bytes.now }
     ensures { result ≡ after start (take index bytes.now) }
 {
@@ -65,7 +66,7 @@ fn place_of(bytes: &[u8], index: usize) -> Place
 
 /// Reads the forms of a text.
 fn read_forms(alloc: Global, bytes: &[u8]) -> Result<Forms, ReadNo>
-    requires limit { length bytes.now ≤ SOURCE_LIMIT }
+    requires limit { length bytes.now ≤ source_limit }
     requires text { IsUtf8 bytes.now }
     ensures found { IfOk result (Spells (source bytes.now)) }
     ensures only { (forms : List Form) → Spells (source bytes.now) forms → IfOk result (λ found. found ≡ forms) }

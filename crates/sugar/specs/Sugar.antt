@@ -1,5 +1,5 @@
 -- The shorthands: what each comes to at the place where it is written.
-use Rattle.std.specs.Prelude.{ℕ, ◌+◌, if◌then◌else◌, List, [], ◌∷◌, codes}
+use Rattle.std.specs.Prelude.{ℕ, ◌+◌, if◌then◌else◌, List, [], ◌∷◌, ◌++◌, codes}
 use Rattle.std.specs.List.{flat_map}
 use Rattle.value_core.specs.Place.{Spot}
 use Rattle.sugar.specs.declared.core_form.BadKind.TheVariants.{Arity, BadForm}
@@ -35,14 +35,14 @@ of_keyword at (keyword ∷ map ∷ []) = list at (symbol (codes "get") at ∷ ma
 of_keyword at (keyword ∷ map ∷ default ∷ []) = list at (symbol (codes "get") at ∷ map ∷ keyword ∷ default ∷ [])
 of_keyword at parts = bad Arity at
 
--- the head that the second argument of an alter becomes: a symbol that is the name of a function or primitive
-abbrev pub callee_kind : Head → CoreKind
-callee_kind (Head.Word word) = if is_form_word word then core.Bad BadForm else core.Sym word
-callee_kind Head.Keyword = core.Bad BadForm
-callee_kind Head.Other = core.Bad BadForm
+-- the head that the second argument of an alter becomes: what is written, but no reserved word that is no primitive
+abbrev pub callee_as : Head → Meaning → Meaning
+callee_as (Head.Word word) function = if is_form_word word then bad BadForm function.at else function
+callee_as Head.Keyword function = function
+callee_as Head.Other function = function
 
-abbrev pub callee : Meaning → Core
-callee function = core_at function.at (callee_kind function.head)
+abbrev pub callee : Meaning → Meaning
+callee function = callee_as function.head function
 
 -- each value behind a name made for it
 abbrev pub bindings : Spot → List Meaning → List Meaning
@@ -64,14 +64,19 @@ abbrev pub altered : Spot → Core → Core → List Core → Core
 altered at function t ts =
     call at (word at (codes "ref-set")) (t ∷ call at function (call at (word at (codes "deref")) (t ∷ []) ∷ ts) ∷ [])
 
+-- an alter of these, where the names that its arguments make are numbered from the last number on
+abbrev pub alter_let : Spot → Meaning → Meaning → List Meaning → ℕ → ℕ → Core
+alter_let at ref function arguments next last =
+    call at (word at (codes "let")) (
+    core_at at (core.Vector (cores (bindings at (ref ∷ [])) next ++ cores (bindings at arguments) last))
+    ∷ altered at (function.core (next + 1 + ref.made)) (core_at at (core.Fresh next)) (names at arguments last) ∷ [])
+
 -- (alter r f a1 a2) is (let [t r t1 a1 t2 a2] (ref-set t (f (deref t) t1 t2)))
 abbrev pub of_alter : Spot → List Meaning → Meaning
 of_alter at (head ∷ ref ∷ function ∷ arguments) = record {
   at = at;
   head = Head.Other;
-  core = λ next. call at (word at (codes "let")) (
-      core_at at (core.Vector (cores (bindings at (ref ∷ arguments)) next))
-      ∷ altered at (callee function) (core_at at (core.Fresh next)) (names at arguments (next + 1 + ref.made)) ∷ []);
-  made = made_in (bindings at (ref ∷ arguments));
+  core = λ next. alter_let at ref (callee function) arguments next (next + 1 + ref.made + (callee function).made);
+  made = 1 + ref.made + (callee function).made + made_in (bindings at arguments);
 }
 of_alter at parts = bad Arity at

@@ -1,7 +1,7 @@
-ghost use Rattle.std.specs.Prelude.{◌≡◌, ◌+◌, [], ◌∷◌, ◌++◌, map, IfOk};
-ghost use Rattle.sugar.specs.Meaning.{Gives, core_at, cores, Head, made_in, list, symbol as symbol_meaning};
+ghost use Rattle.std.specs.Prelude.{◌≡◌, ◌+◌, ℕ, [], ◌∷◌, ◌++◌, map, IfOk};
+ghost use Rattle.sugar.specs.Meaning.{Gives, core_at, cores, made_in, list, symbol as symbol_meaning};
 ghost use Rattle.sugar.specs.Expansion.{meaning, expanded, of_list, sugar_in, sugar_named};
-ghost use Rattle.sugar.specs.Sugar.{of_if, of_body, of_when, of_keyword, of_alter, callee as callee_core, callee_kind, bindings as bindings_of, names as names_of};
+ghost use Rattle.sugar.specs.Sugar.{of_if, of_body, of_when, of_keyword, of_alter, callee, bindings as bindings_of, names as names_of};
 ghost use Rattle.sugar.specs.declared.core_form.CoreKind.TheVariants.{Fresh as FreshKind};
 
 use crate::core_form::{BadKind, Core, CoreKind, Cores, Tops};
@@ -200,9 +200,23 @@ impl Expander {
         };
         let mut bindings = Seq::new(self.alloc);
         let name = self.bind(at, reference, &mut bindings)?;
-        let mut call = call_of(self.alloc, at, callee(self.alloc, function)?, name)?;
+        let head = self.callee(function)?;
+        let mut call = call_of(self.alloc, at, head, name)?;
         self.bind_all(at, values, &mut bindings, &mut call)?;
         let_of(self.alloc, at, name, bindings, call)
+    }
+
+    /// The head that the second argument of an `alter` becomes: what is written, but no reserved word that is no
+    /// primitive.
+    #[cycle(expand)]
+    #[tactic(auto, using(crate::proofs::Heads::plain_callee))]
+    fn callee(&mut self, function: &Form) -> Result<Core, AllocError>
+        ensures { IfOk result (Gives (callee (meaning function.now)) self.old.next self.new.next) }
+    {
+        match &function.kind {
+            FormKind::Sym(name) => callee_named(self.alloc, function.at, name.items()),
+            _ => self.form(function),
+        }
     }
 
     /// Binds each value to a name made for it, and puts the names behind the call.
@@ -277,19 +291,9 @@ fn sugar_named(name: &[u8]) -> Sugar
     }
 }
 
-/// The head that the second argument of an `alter` becomes: a symbol that is no reserved word, or a primitive's.
-#[tactic(auto, using(crate::proofs::Heads::bad_callee))]
-fn callee(alloc: Global, function: &Form) -> Result<Core, AllocError>
-    ensures { IfOk result (λ core. core ≡ callee_core (meaning function.now)) }
-{
-    match &function.kind {
-        FormKind::Sym(name) => callee_named(alloc, function.at, name.items()),
-        _ => Ok(Core::new(function.at, CoreKind::Bad(BadKind::BadForm))),
-    }
-}
-
+/// The head that a symbol becomes as the second argument of an `alter`.
 fn callee_named(alloc: Global, at: Place, name: &[u8]) -> Result<Core, AllocError>
-    ensures { IfOk result (λ core. core ≡ core_at at (callee_kind (Head.Word name.now))) }
+    ensures { IfOk result (λ core. (next : ℕ) → core ≡ (callee (symbol_meaning name.now at)).core next) }
 {
     if is_form_word(name) {
         return Ok(Core::new(at, CoreKind::Bad(BadKind::BadForm)));

@@ -4,8 +4,6 @@
 mod core_form;
 mod expansion;
 mod parts;
-#[cfg(test)]
-mod tests;
 mod words;
 
 pub use core_form::{BadKind, Core, CoreKind, Cores, Tops};

@@ -11,10 +11,9 @@ use Rattle.serial_model.specs.declared.end.End.TheVariants.{Done, Fault, Spent, 
 use Rattle.serial_model.specs.declared.entry.Entry.{Entry}
 use Rattle.serial_model.specs.declared.entry.Entry.TheVariants.{Run, Take}
 use Rattle.serial_model.specs.declared.trace.Trace.{Trace}
-use Rattle.serial_model.specs.declared.trace.TheConstants.{TRACE_LIMIT}
 use Rattle.serial_model.specs.declared.trace.LineKind.TheVariants.{BadLine}
 use Rattle.serial_model.specs.Limits.{Budget, IsInRange}
-use Rattle.serial_model.specs.Trace.{FitsUpTo, IsEnd, IsEntry, IsTextOfTrace, IsTrace, end_text, entry_text, limits_text, line_of, lines_of, trace_refusal, trace_text}
+use Rattle.serial_model.specs.Trace.{FitsUpTo, IsEnd, IsEntry, IsTextOfTrace, IsTrace, end_text, entry_text, limits_text, line_of, lines_of, trace_refusal, trace_text, trace_limit}
 use Rattle.trace_text.specs.Cut.{IsCut, is_without}
 use Rattle.trace_text.specs.Lines.{IsEntryText, IsEndText, IsLimitsText, IsNoLine}
 use Rattle.trace_text.proofs.Feeds.{end_one_line, entry_one_line, limits_one_line}
@@ -90,7 +89,7 @@ passed_more bytes limits entries rest line after entry passed cut is = record {
 
 -- the bytes are a trace's text where nothing stands after the end
 pub taken : (bytes : List ℕ) (limits : Budget) (history : Roomy Entry) (rest line after : List ℕ) (end : End)
-    → length bytes ≤ TRACE_LIMIT → Passed bytes limits history.items rest → IsCut 10 rest line after → IsEndText end line → after ≡ []
+    → length bytes ≤ trace_limit → Passed bytes limits history.items rest → IsCut 10 rest line after → IsEndText end line → after ≡ []
     → IsTextOfTrace (record { limits = limits; history = history; end = end }) bytes
 taken bytes limits history rest line after end short passed cut is none =
     let whole : Trace = record { limits = limits; history = history; end = end } in
@@ -139,7 +138,7 @@ abbrev pub done_trace : Budget → List Entry → End → Trace
 done_trace limits entries end = record { limits = limits; history = record { items = entries; room = 0 }; end = end }
 
 pub refused_here : (bytes : List ℕ) (limits : Budget) (entries : List Entry) (rest : List ℕ) (line : ℕ)
-    → length bytes ≤ TRACE_LIMIT → Passed bytes limits entries rest → NoLineLeads rest → line ≡ 3 + length entries → trace_refusal bytes BadLine line
+    → length bytes ≤ trace_limit → Passed bytes limits entries rest → NoLineLeads rest → line ≡ 3 + length entries → trace_refusal bytes BadLine line
 refused_here bytes limits entries rest line short passed none at =
     let before : line - 1 ≡ suc (suc (length entries)) = omega arith in
     let here : line ≡ suc (suc (suc (length entries))) = omega arith in
@@ -175,7 +174,7 @@ same_front_more [] line xs ys = refl
 same_front_more (entry ∷ entries) line xs ys = ap (λ ls. entry_line entry ∷ ls) (same_front_more entries line xs ys)
 
 pub refused_after : (bytes : List ℕ) (limits : Budget) (entries : List Entry) (rest text after : List ℕ) (end : End) (line : ℕ)
-    → length bytes ≤ TRACE_LIMIT → Passed bytes limits entries rest → IsCut 10 rest text after → IsEndText end text → after ≢ [] → line ≡ 4 + length entries → trace_refusal bytes BadLine line
+    → length bytes ≤ trace_limit → Passed bytes limits entries rest → IsCut 10 rest text after → IsEndText end text → after ≢ [] → line ≡ 4 + length entries → trace_refusal bytes BadLine line
 refused_after bytes limits entries rest text after end line short passed cut is some at =
     let before : line - 1 ≡ suc (suc (suc (length entries))) = omega arith in
     let here : line ≡ suc (suc (suc (suc (length entries)))) = omega arith in
@@ -209,7 +208,7 @@ some_trace = done_trace (record { fuel = 1; units = 1 }) [] Done
 some_trace_is : IsTrace some_trace
 some_trace_is = record { limits = record { some_fuel = omega arith; most_fuel = omega arith; some_units = omega arith; most_units = omega arith }; entries = All-nil IsEntry; end = tt }
 
-pub refused_head : (bytes : List ℕ) → length bytes ≤ TRACE_LIMIT → ((rest : List ℕ) → bytes ≢ head_line ++ rest) → trace_refusal bytes BadLine 1
+pub refused_head : (bytes : List ℕ) → length bytes ≤ trace_limit → ((rest : List ℕ) → bytes ≢ head_line ++ rest) → trace_refusal bytes BadLine 1
 refused_head bytes short none = (short, record { trace = some_trace; is_trace = some_trace_is; alike = refl }, never_fits)
   where
     never_fits : ¬ (FitsUpTo 1 bytes)
@@ -227,7 +226,7 @@ no_limits_lead rest line after cut none limits is e = none limits (record { in_r
 pub no_limits_uncut : (rest : List ℕ) → is_without 10 rest ≡ true → NoLimitsLead rest
 no_limits_uncut rest w limits is = no_lead rest (limits_text limits) w
 
-pub refused_limits : (bytes rest : List ℕ) → length bytes ≤ TRACE_LIMIT → bytes ≡ head_line ++ rest → NoLimitsLead rest → trace_refusal bytes BadLine 2
+pub refused_limits : (bytes rest : List ℕ) → length bytes ≤ trace_limit → bytes ≡ head_line ++ rest → NoLimitsLead rest → trace_refusal bytes BadLine 2
 refused_limits bytes rest short e none = (short, record { trace = some_trace; is_trace = some_trace_is; alike = ap (take 1) lines ∙ ap (take 1) (sym (lines_of_trace some_trace some_trace_is)) }, never_fits)
   where
     lines : lines_of bytes ≡ head_line ∷ lines_of rest

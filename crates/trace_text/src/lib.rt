@@ -8,12 +8,10 @@ mod line;
 mod no;
 mod parts;
 mod read;
-#[cfg(test)]
-mod tests;
 mod word;
 mod write;
 
 pub use error::TraceNo;
 pub use laws::{every_text, one_trace, refused_once, text_or_refused};
-pub use read::read_trace;
+pub use read::{TRACE_LIMIT, read_trace};
 pub use write::write_trace;

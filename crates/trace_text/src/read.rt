@@ -1,6 +1,5 @@
 ghost use Rattle.std.specs.Prelude.{◌≡◌, ◌≤◌, [], ◌∷◌, ◌++◌, length, Ok, Err, OnOk, IfOk, IfErr, MatchResult};
-ghost use Rattle.serial_model.specs.declared.trace.TheConstants.{TRACE_LIMIT};
-ghost use Rattle.serial_model.specs.Trace.{IsTextOfTrace};
+ghost use Rattle.serial_model.specs.Trace.{IsTextOfTrace, trace_limit};
 ghost use Rattle.trace_text.specs.Refused.{IsWhy, why_at};
 
 use crate::cut::{after_prefix, cut};
@@ -8,8 +7,11 @@ use crate::error::TraceNo;
 use crate::line::{Line, read_line};
 use crate::no::LineNo;
 use crate::parts::read_limits;
-use serial_model::{Entry, History, LineKind, TRACE_LIMIT, Trace};
+use serial_model::{Entry, History, LineKind, Trace};
 use std::alloc::Global;
+
+/// The most bytes that a trace is read from.
+pub const TRACE_LIMIT: usize = 67_108_864;
 
 /// The trace that the bytes are the text of. `Refused` comes exactly where they are no trace's text, or too long.
 pub fn read_trace(alloc: Global, bytes: &[u8]) -> Result<Trace, TraceNo>
@@ -26,7 +28,7 @@ pub fn read_trace(alloc: Global, bytes: &[u8]) -> Result<Trace, TraceNo>
 }
 
 fn read_lines(alloc: Global, bytes: &[u8]) -> Result<Trace, TraceNo>
-    requires { length bytes.now ≤ TRACE_LIMIT }
+    requires { length bytes.now ≤ trace_limit }
     ensures trace { IfOk result (λ trace. IsTextOfTrace trace bytes.now) }
     ensures refused { IfErr result (λ no. IsWhy no bytes.now) }
 {

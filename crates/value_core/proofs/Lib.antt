@@ -1,7 +1,15 @@
+pub mod Crossing
 pub mod Induction
 pub mod KeyOrder
+pub mod NamedLaws
+pub mod NamedViews
+pub mod NameMaps
+pub mod NameMarks
 pub mod Names
+pub mod NameSets
 pub mod PairLaws
+pub mod PlacedLaws
+pub mod primitives
 pub mod Steps
 pub mod Structural
 pub mod ValueFolds

@@ -3,11 +3,16 @@ pub mod formers
 pub mod Futures
 pub mod Key
 pub mod Name
+pub mod Named
 pub mod NameOrder
+pub mod NameSet
 pub mod NameText
 pub mod Pairs
 pub mod Place
+pub mod Placed
+pub mod primitives
 pub mod Roomy
 pub mod Structural
+pub mod Texts
 pub mod ToKey
 pub mod Within

@@ -1,19 +1,24 @@
 //! The values that every other crate speaks of: lists and texts, keys, maps and the tree of values, names of units,
-//! places in a source, fault codes and primitives.
+//! places in a source, fault codes and primitives. The definitions of printed texts and of what each primitive gives stand
+//! here too, with their laws.
 #![tactic(auto)]
 
 mod code;
 mod dict;
 mod key;
+pub mod lists;
 mod name;
+pub mod name_map;
 mod name_order;
+pub mod name_set;
 mod op;
+mod op_fault;
 mod pair;
 mod place;
+mod places;
 mod reserved;
 mod seq;
-#[cfg(test)]
-mod tests;
+mod style;
 mod ticket;
 mod value;
 
@@ -22,9 +27,12 @@ pub use dict::{Dict, Pairs};
 pub use key::Key;
 pub use name::{Name, NameNo};
 pub use op::Op;
+pub use op_fault::OpFault;
 pub use pair::Pair;
 pub use place::Place;
+pub use places::Places;
 pub use reserved::Reserved;
 pub use seq::{Seq, Text};
+pub use style::Style;
 pub use ticket::Ticket;
 pub use value::{KeyNo, Value, Values};

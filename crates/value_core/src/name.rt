@@ -2,6 +2,7 @@ ghost use Rattle.std.specs.Prelude.{◌≡◌, ◌<◌, ◌^◌, ℕ, List, [], 
 ghost use Rattle.value_core.specs.NameText.{is_dot, read_on, WritesNumber};
 ghost use Rattle.value_core.specs.Name.{after_cmp, name_text, IsTextOf};
 
+use crate::lists::add;
 use crate::{Seq, Text};
 use itoa::Buffer;
 use std::alloc::{AllocError, Global};
@@ -102,7 +103,7 @@ impl Name {
         let mut text = Seq::new(alloc);
         push_number(&mut text, parts[0])?;
         for number in &parts[1..] {
-            push_byte(&mut text, b'.')?;
+            add(&mut text, b'.')?;
             push_number(&mut text, *number)?;
         }
         Ok(text)
@@ -116,12 +117,6 @@ pub enum NameNo {
     BadName,
     #[error("out of memory")]
     Memory,
-}
-
-fn push_byte(text: &mut Text, byte: u8) -> Result<(), AllocError>
-    ensures { IfOk result (λ _. text.new ≡ text.old ++ byte ∷ []) }
-{
-    text.push(byte).map_err(|_| AllocError)
 }
 
 fn push_number(text: &mut Text, number: u32) -> Result<(), AllocError>

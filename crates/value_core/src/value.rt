@@ -4,6 +4,7 @@ ghost use Rattle.value_core.specs.Depth.{depth_of, deepest};
 ghost use Rattle.value_core.specs.Futures.{holds_future};
 ghost use Rattle.value_core.specs.ToKey.{key_of};
 
+use crate::lists::add;
 use crate::{Dict, Key, Name, Pair, Pairs, Seq, Text};
 use std::alloc::{AllocError, Global};
 use thiserror::Error;
@@ -218,15 +219,9 @@ fn copy_items(alloc: Global, items: &Values) -> Result<Values, AllocError>
     let mut copied = Seq::new(alloc);
     copied.reserve(items.items().len())?;
     for item in items.items() {
-        push_value(&mut copied, item.copy(alloc)?)?;
+        add(&mut copied, item.copy(alloc)?)?;
     }
     Ok(copied)
-}
-
-fn push_value(values: &mut Values, value: Value) -> Result<(), AllocError>
-    ensures { IfOk result (λ _. values.new ≡ values.old ++ value ∷ []) }
-{
-    values.push(value).map_err(|_| AllocError)
 }
 
 #[cycle(copy)]

@@ -3,7 +3,7 @@ use Rattle.std.proofs.Common.{◌≡◌, ◌≢◌, ℕ, ◌<◌, List, refl, ap
 use Rattle.value_core.specs.declared.op.Op.{Op}
 use Rattle.value_core.specs.declared.op.Op.TheVariants as op
 use Rattle.value_ops.specs.declared.words.TheConstants.{ALL}
-use Rattle.value_ops.specs.Words.{op_word}
+use Rattle.value_core.specs.primitives.Words.{op_word}
 
 pub place_of : Op → ℕ
 place_of op.Add = 0

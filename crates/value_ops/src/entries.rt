@@ -3,9 +3,9 @@ ghost use Rattle.std.specs.Bool.{MatchBool};
 ghost use Rattle.std.specs.List.{list_all};
 ghost use Rattle.value_core.specs.declared.value.Value.TheVariants.{Map};
 ghost use Rattle.value_core.specs.declared.value.Value.TheViews.{out-Value};
-ghost use Rattle.value_ops.specs.Apply.{Gives, of_first};
-ghost use Rattle.value_ops.specs.Kinds.{is_int};
-ghost use Rattle.value_ops.specs.Parts.{paired, assoc_step, put_rule, place_rule, placed, dissoc_step, drop_key};
+ghost use Rattle.value_core.specs.primitives.Apply.{Gives, of_first};
+ghost use Rattle.value_core.specs.primitives.Kinds.{is_int};
+ghost use Rattle.value_core.specs.primitives.Parts.{paired, assoc_step, put_rule, place_rule, placed, dissoc_step, drop_key};
 
 use crate::OpFault;
 use crate::ints::{int_of, is_int};

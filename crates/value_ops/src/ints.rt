@@ -1,8 +1,9 @@
 ghost use Rattle.std.specs.Prelude.{◌≡◌, ◌≢◌, ◌≤◌, ℤ, pos, true, false, map, drop, length, MatchOption, int_rem, [], ◌∷◌};
 ghost use Rattle.std.specs.List.{list_all};
-ghost use Rattle.value_ops.specs.Apply.{Gives};
-ghost use Rattle.value_ops.specs.Ints.{in_range, checked, folded, on_ints, sum_rule, product_rule, difference_rule, increase_rule, extreme_rule, division_rule, order_rule, test_rule, step_of, quotient_of, choice_of, relation_of, test_of, int_mod, in_order};
-ghost use Rattle.value_ops.specs.Kinds.{is_int, int_of};
+ghost use Rattle.value_core.specs.primitives.Apply.{Gives};
+ghost use Rattle.value_core.specs.primitives.Ints.{in_range, checked, folded, on_ints, sum_rule, product_rule, difference_rule, increase_rule, extreme_rule, division_rule, order_rule, test_rule, int_mod, in_order};
+ghost use Rattle.value_ops.specs.Ints.{step_of, quotient_of, choice_of, relation_of, test_of};
+ghost use Rattle.value_core.specs.primitives.Kinds.{is_int, int_of};
 
 use crate::OpFault;
 use value_core::Value;

@@ -1,6 +1,6 @@
 ghost use Rattle.std.specs.Prelude.{◌≡◌, Ok};
 ghost use Rattle.value_core.specs.declared.value.Value.TheVariants.{Bool as bool_value};
-ghost use Rattle.value_ops.specs.Apply.{Gives, of_one};
+ghost use Rattle.value_core.specs.primitives.Apply.{Gives, of_one};
 ghost use Rattle.value_ops.specs.Kinds.{has_kind};
 
 use crate::OpFault;

@@ -4,13 +4,10 @@
 mod entries;
 mod ints;
 mod kinds;
-mod op_fault;
 mod parts;
 mod table;
-#[cfg(test)]
-mod tests;
 mod words;
 
-pub use op_fault::OpFault;
 pub use table::apply;
+pub use value_core::OpFault;
 pub use words::{op_named, takes};

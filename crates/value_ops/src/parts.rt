@@ -4,8 +4,8 @@ ghost use Rattle.value_core.specs.declared.value.Value.TheVariants.{Nil, Int, Ve
 ghost use Rattle.value_core.specs.declared.value.Value.TheOpen as one;
 ghost use Rattle.value_core.specs.declared.value.Value.TheViews.{out-Value};
 ghost use Rattle.value_core.specs.ToKey.{key_of};
-ghost use Rattle.value_ops.specs.Apply.{Gives, of_one, of_two, of_two_or_three, of_first};
-ghost use Rattle.value_ops.specs.Parts.{item_at, item_of, value_at, count_step, empty_step, get_step, contains_step, item_or, nth_step, conj_step, first_step, last_step, rest_step, keys_step, vals_step, between, subvec_step, subvec_to_step, into_step, key_value};
+ghost use Rattle.value_core.specs.primitives.Apply.{Gives, of_one, of_two, of_two_or_three, of_first};
+ghost use Rattle.value_core.specs.primitives.Parts.{item_at, item_of, value_at, count_step, empty_step, get_step, contains_step, item_or, nth_step, conj_step, first_step, last_step, rest_step, keys_step, vals_step, between, subvec_step, subvec_to_step, into_step, key_value};
 
 use crate::OpFault;
 use crate::ints::{int_of, is_int};

@@ -1,9 +1,9 @@
 ghost use Rattle.std.specs.Prelude.{◌≡◌, length, IsTrue, Ok};
 ghost use Rattle.value_core.specs.declared.value.Value.TheVariants.{Str};
-ghost use Rattle.value_print.specs.Texts.{str_text};
-ghost use Rattle.value_ops.specs.Apply.{Gives, apply_of, rule_of, limited};
-ghost use Rattle.value_ops.specs.Equality.{all_same, same_value};
-ghost use Rattle.value_ops.specs.Words.{takes_of};
+ghost use Rattle.value_core.specs.Texts.{str_text};
+ghost use Rattle.value_core.specs.primitives.Apply.{Gives, apply_of, rule_of, limited};
+ghost use Rattle.value_core.specs.primitives.Equality.{all_same, same_value};
+ghost use Rattle.value_core.specs.primitives.Words.{takes_of};
 
 use crate::ints::{Arithmetic, Division, Extreme, Order, Sign};
 use crate::kinds::Kind;

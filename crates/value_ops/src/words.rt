@@ -1,5 +1,5 @@
 ghost use Rattle.std.specs.Prelude.{◌≡◌, ◌≢◌, MatchOption};
-ghost use Rattle.value_ops.specs.Words.{op_word, takes_of};
+ghost use Rattle.value_core.specs.primitives.Words.{op_word, takes_of};
 
 use value_core::Op;
 

@@ -8,8 +8,8 @@ use Rattle.value_core.specs.declared.value.Value.{Value}
 use Rattle.value_core.specs.declared.value.Value.TheVariants.{Map, rolls-Map}
 use Rattle.value_core.specs.declared.value.Value.TheOpen as one
 use Rattle.value_core.specs.declared.value.Value.TheFolds.{fold-roll-Value}
-use Rattle.value_print.specs.declared.style.Style.{Style}
-use Rattle.value_print.specs.Texts.{joined, pair_text, key_text, value_text, value_step}
+use Rattle.value_core.specs.declared.style.Style.{Style}
+use Rattle.value_core.specs.Texts.{joined, pair_text, key_text, value_text, value_step}
 
 -- the texts that are left: each but the first of all has the separator in front
 abbrev pub left_at : List ℕ → Bool → List (List ℕ) → List ℕ

@@ -3,9 +3,5 @@
 #![tactic(auto)]
 
 mod print;
-mod style;
-#[cfg(test)]
-mod tests;
 
 pub use print::{print_line, readable, str_of};
-pub use style::Style;

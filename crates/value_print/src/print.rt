@@ -1,12 +1,11 @@
 ghost use Rattle.std.specs.Prelude.{◌≡◌, ◌==◌, if◌then◌else◌, [], ◌∷◌, ◌++◌, map, codes, IfOk};
 ghost use Rattle.std.specs.Fmt.{signed_decimal};
 ghost use Rattle.std.specs.List.{flat_map};
-ghost use Rattle.value_print.specs.Texts.{joined, escaped, quoted, string_text, bool_text, key_text, value_text, line_of, str_piece, str_text};
+ghost use Rattle.value_core.specs.Texts.{joined, escaped, quoted, string_text, bool_text, key_text, value_text, line_of, str_piece, str_text};
 
-use crate::Style;
 use itoa::Buffer;
 use std::alloc::{AllocError, Global};
-use value_core::{Key, Pairs, Seq, Text, Value, Values};
+use value_core::{Key, Pairs, Seq, Style, Text, Value, Values};
 
 /// The line of some values: their plain texts with one space between them, and a line feed.
 pub fn print_line(alloc: Global, args: &[Value]) -> Result<Text, AllocError>

@@ -3,6 +3,7 @@ use Rattle.std.proofs.Common.{◌≡◌, ℕ, ◌+◌, ◌≤◌, List, [], ◌+
 use Rattle.std.proofs.Math.Seq.{take-add, take-append-add}
 use Rattle.std.proofs.lemmas.List.{take-append-le}
 use Rattle.std.specs.Io.KnownBytes.{append_known}
+use Rattle.world_io.specs.Seen.{SinkSeen}
 use Rattle.world_io.specs.Taken.{TookPrefix, Said}
 use Rattle.world_io.proofs.CountsLemmas.{not_risen-first, not_risen-second}
 
@@ -40,9 +41,9 @@ TookPrefix-append old mid new front back whole took = (
 )
 
 -- two lines in a row
-pub Said-append : (old mid new : Option (List ℕ)) (before between now : ℕ) (front back : List ℕ) → before ≤ between → between ≤ now
-    → Said old mid before between front → Said mid new between now back → Said old new before now (front ++ back)
-Said-append old mid new before between now front back first second said_front said_back calm =
-    said_back (not_risen-second before between now calm first)
-    ∙ ap (λ t. append_known t back) (said_front (not_risen-first before between now calm second))
-    ∙ append_known-append old front back
+pub Said-append : (old mid new : SinkSeen) (front back : List ℕ) → old.faults ≤ mid.faults → mid.faults ≤ new.faults
+    → Said old mid front → Said mid new back → Said old new (front ++ back)
+Said-append old mid new front back first second said_front said_back calm =
+    said_back (not_risen-second old.faults mid.faults new.faults calm first)
+    ∙ ap (λ t. append_known t back) (said_front (not_risen-first old.faults mid.faults new.faults calm second))
+    ∙ append_known-append old.taken front back

@@ -5,5 +5,6 @@ pub mod HostFiles
 pub mod MemFiles
 pub mod MemSink
 pub mod Reads
+pub mod Seen
 pub mod Taken
 pub mod Writes

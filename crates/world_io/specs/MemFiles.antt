@@ -1,5 +1,5 @@
 -- Files in memory.
-use Rattle.std.specs.Prelude.{ℕ, List, Result, Ok, Err}
+use Rattle.std.specs.Prelude.{ℕ, List, Option, Result, Ok, Err}
 use Rattle.world_io.specs.Counts.{raised}
 use Rattle.world_io.specs.FailPlan.{Plan}
 use Rattle.world_io.specs.declared.files.FileItem.{FileItem}
@@ -8,12 +8,13 @@ use Rattle.world_io.specs.declared.files.FileNo.TheVariants.{Failed, Absent, Too
 use Rattle.world_io.specs.declared.files.WriteNo.{WriteNo}
 use Rattle.world_io.specs.declared.files.WriteNo.TheVariants as write
 
--- the files, which calls fail, and how many reads and how many writes have failed
+-- the files, which calls fail, how many reads and how many writes have failed, and which name's read failed last
 pub record FilesInMemory : Type 0 where
   pub held : List FileItem
   pub plan : Plan
   pub read_faults : ℕ
   pub write_faults : ℕ
+  pub last_unread : Option (List ℕ)
 
 -- the count after a read: one more after a failure, and as it was after every other answer
 abbrev pub faults_after : {T : Type 0} → Result T FileNo → ℕ → ℕ

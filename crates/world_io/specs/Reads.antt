@@ -1,5 +1,5 @@
 -- The answers to a read.
-use Rattle.std.specs.Prelude.{◌≡◌, ℕ, ◌⊎◌, Result, Ok, Err, IsErrOf}
+use Rattle.std.specs.Prelude.{◌≡◌, ℕ, ◌⊎◌, List, Option, Some, Result, Ok, Err, IsErrOf}
 use Rattle.world_io.specs.Counts.{Rose}
 use Rattle.world_io.specs.declared.files.FileNo.{FileNo}
 use Rattle.world_io.specs.declared.files.FileNo.TheVariants.{Failed, Absent, TooLong, Memory}
@@ -15,3 +15,11 @@ CountsRead (Err Failed) before now = Rose before now
 CountsRead (Err Absent) before now = now ≡ before
 CountsRead (Err TooLong) before now = now ≡ before
 CountsRead (Err Memory) before now = now ≡ before
+
+-- the name of the read that failed last, after a read of this name: a failure puts the name there, and no other answer
+abbrev pub unread_after : {T : Type 0} → List ℕ → Result T FileNo → Option (List ℕ) → Option (List ℕ)
+unread_after name (Ok bytes) before = before
+unread_after name (Err Failed) before = Some name
+unread_after name (Err Absent) before = before
+unread_after name (Err TooLong) before = before
+unread_after name (Err Memory) before = before

@@ -2,6 +2,7 @@
 use Rattle.std.specs.Prelude.{◌≡◌, ℕ, ◌≤◌, List, length, take, Option, Result, Ok, Err}
 use Rattle.std.specs.Io.KnownBytes.{append_known}
 use Rattle.world_io.specs.Counts.{Rose}
+use Rattle.world_io.specs.Seen.{SinkSeen}
 use Rattle.world_io.specs.declared.sink.Failed.{Failed}
 
 -- the bytes taken grew by some front of the text
@@ -19,5 +20,5 @@ CountsWrite (Ok x) before now = now ≡ before
 CountsWrite (Err failed) before now = Rose before now
 
 -- the line was taken whole where the count of faults did not rise
-abbrev pub Said : Option (List ℕ) → Option (List ℕ) → ℕ → ℕ → List ℕ → Type 0
-Said old new before now line = (Rose before now → ⊥) → new ≡ append_known old line
+abbrev pub Said : SinkSeen → SinkSeen → List ℕ → Type 0
+Said old new line = (Rose old.faults new.faults → ⊥) → new.taken ≡ append_known old.taken line

@@ -5,6 +5,7 @@ use crate::files::{FileNo, Files, WriteNo};
 use crate::reads::read_within;
 use std::alloc::Global;
 use std::marker::Model;
+use std::snapshot::Snapshot;
 use std::{fs, rt};
 use value_core::Text;
 
@@ -15,25 +16,28 @@ pub struct HostFiles<'a, R: rt::Files + Drop> {
     host: &'a R,
     read_faults: u64,
     write_faults: u64,
+    last_unread: Option<Snapshot<Text>>,
 }
 
 impl<'a, R: rt::Files + Drop> Model for HostFiles<'a, R> {
+    ghost use Rattle.std.specs.Option.{option_map};
     ghost use Rattle.world_io.specs.HostFiles.{HostFaults};
 
     ghost Value = { HostFaults };
 
-    ghost view = { λ f. record { of_reads = f.read_faults; of_writes = f.write_faults } };
+    ghost view = { λ f. record { of_reads = f.read_faults; of_writes = f.write_faults; last_unread = option_map (λ name. name.value) f.last_unread } };
 }
 
 impl<'a, R: rt::Files + Drop> HostFiles<'a, R> {
     /// The files that this runtime reaches. No fault has come yet.
     pub fn new(host: &'a R) -> Self
-        ensures { result ≡ record { of_reads = 0; of_writes = 0 } }
+        ensures { result ≡ record { of_reads = 0; of_writes = 0; last_unread = None } }
     {
         HostFiles {
             host,
             read_faults: 0,
             write_faults: 0,
+            last_unread: None,
         }
     }
 
@@ -55,16 +59,13 @@ impl<'a, R: rt::Files + Drop> HostFiles<'a, R> {
 }
 
 impl<'a, R: rt::Files + Drop> Files for HostFiles<'a, R> {
-    ghost held = { λ _. None };
-
-    ghost read_faults = { λ f. f.of_reads };
-
-    ghost write_faults = { λ f. f.of_writes };
+    ghost seen = { λ f. record { held = None; read_faults = f.of_reads; write_faults = f.of_writes; last_unread = f.last_unread } };
 
     fn read(&mut self, alloc: Global, name: &Text, limit: usize) -> Result<Vec<u8>, FileNo> {
         let answer = self.read_host(alloc, name, limit);
         if let Err(FileNo::Failed) = answer {
             self.read_faults = count_after_fault(self.read_faults);
+            self.last_unread = Some(Snapshot::of(name));
         }
         answer
     }

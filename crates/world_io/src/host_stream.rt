@@ -37,9 +37,7 @@ impl<P: Print + Drop> HostStream<P> {
 }
 
 impl<P: Print + Drop> Sink for HostStream<P> {
-    ghost taken = { λ _. None };
-
-    ghost faults = { λ s. s };
+    ghost seen = { λ faults. record { taken = None; faults = faults } };
 
     fn write(&mut self, piece: &[u8]) -> Result<usize, Failed> {
         if piece.is_empty() {

@@ -18,8 +18,6 @@ pub use host_files::HostFiles;
 pub use host_stream::{HostErr, HostOut, HostStream};
 pub use mem_files::MemFiles;
 pub use mem_sink::MemSink;
+pub use reads::read_within;
 pub use sink::{Failed, Sink};
 pub use writes::write_all;
-
-#[cfg(test)]
-mod tests;

@@ -4,13 +4,14 @@ ghost use Rattle.std.specs.Str.{bytes_eq};
 ghost use Rattle.world_io.specs.Held.{file_under, told, IsHeld, ExceedsLimit};
 ghost use Rattle.world_io.specs.FailPlan.{first_plan, plan_after, IsListed};
 ghost use Rattle.world_io.specs.MemFiles.{faults_after, faults_after_write};
-ghost use Rattle.world_io.specs.Reads.{CountsRead, IsFree};
+ghost use Rattle.world_io.specs.Reads.{CountsRead, IsFree, unread_after};
 
 use crate::counts::count_after_fault;
 use crate::fail_plan::FailPlan;
 use crate::files::{CallList, FileItem, FileList, FileNo, Files, WriteNo};
 use std::alloc::{AllocError, Global};
 use std::marker::Model;
+use std::snapshot::Snapshot;
 use value_core::Text;
 
 /// Files in memory. They tell what they hold, and fail at the calls that they are told to fail at.
@@ -20,36 +21,35 @@ pub struct MemFiles {
     plan: FailPlan,
     read_faults: u64,
     write_faults: u64,
+    last_unread: Option<Snapshot<Text>>,
 }
 
 impl Model for MemFiles {
+    ghost use Rattle.std.specs.Option.{option_map};
     ghost use Rattle.world_io.specs.MemFiles.{FilesInMemory};
 
     ghost Value = { FilesInMemory };
 
-    ghost view = { λ f. record { held = f.held; plan = f.plan; read_faults = f.read_faults; write_faults = f.write_faults } };
+    ghost view = { λ f. record { held = f.held; plan = f.plan; read_faults = f.read_faults; write_faults = f.write_faults; last_unread = option_map (λ name. name.value) f.last_unread } };
 }
 
 impl MemFiles {
     /// Files that hold these, of which the calls with these numbers, from 0, fail.
     pub fn new(held: FileList, fails: CallList) -> Self
-        ensures { result ≡ record { held = held; plan = first_plan fails; read_faults = 0; write_faults = 0 } }
+        ensures { result ≡ record { held = held; plan = first_plan fails; read_faults = 0; write_faults = 0; last_unread = None } }
     {
         MemFiles {
             held,
             plan: FailPlan::new(fails),
             read_faults: 0,
             write_faults: 0,
+            last_unread: None,
         }
     }
 }
 
 impl Files for MemFiles {
-    ghost held = { λ f. Some f.held };
-
-    ghost read_faults = { λ f. f.read_faults };
-
-    ghost write_faults = { λ f. f.write_faults };
+    ghost seen = { λ f. record { held = Some f.held; read_faults = f.read_faults; write_faults = f.write_faults; last_unread = f.last_unread } };
 
     /// The bytes held under the name, if they are at most `limit`. `Failed` comes exactly at the calls listed.
     fn read(&mut self, alloc: Global, name: &Text, limit: usize) -> Result<Vec<u8>, FileNo>
@@ -67,12 +67,14 @@ impl Files for MemFiles {
             → limit < length bytes → IsErrOf result FileNo.TooLong ⊎ IsFree result }
         ensures faults { self.new.read_faults ≡ faults_after result self.old.read_faults }
         ensures later { self.old.read_faults ≤ self.new.read_faults }
+        ensures unread { self.new.last_unread ≡ unread_after name.now result self.old.last_unread }
         ensures numbered { self.new.plan ≡ plan_after self.old.plan }
         ensures same { self.new.held ≡ self.old.held }
         ensures writes { self.new.write_faults ≡ self.old.write_faults }
     {
         if self.plan.next_fails() {
             self.read_faults = count_after_fault(self.read_faults);
+            self.last_unread = Some(Snapshot::of(name));
             return Err(FileNo::Failed);
         }
         let Some(bytes) = bytes_under(name.items(), self.held.items()) else {
@@ -96,6 +98,7 @@ impl Files for MemFiles {
         ensures later { self.old.write_faults ≤ self.new.write_faults }
         ensures numbered { self.new.plan ≡ plan_after self.old.plan }
         ensures reads { self.new.read_faults ≡ self.old.read_faults }
+        ensures unread { self.new.last_unread ≡ self.old.last_unread }
     {
         if self.plan.next_fails() {
             self.write_faults = count_after_fault(self.write_faults);

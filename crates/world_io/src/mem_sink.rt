@@ -62,9 +62,7 @@ impl MemSink {
 }
 
 impl Sink for MemSink {
-    ghost taken = { λ s. Some s.taken };
-
-    ghost faults = { λ s. s.faults };
+    ghost seen = { λ s. record { taken = Some s.taken; faults = s.faults } };
 
     /// Takes as much of the piece as it may and as there is room for. `Failed` comes exactly at the calls listed, and
     /// where no room is left and the piece is not empty.

@@ -8,11 +8,7 @@ use std::io::Read;
 const CHUNK: usize = 65536;
 
 /// All bytes that the reader has left, if they are at most `limit`. It stops as soon as more have come.
-pub(crate) fn read_within<R: Read>(
-    alloc: Global,
-    reader: &mut R,
-    limit: usize,
-) -> Result<Vec<u8>, FileNo>
+pub fn read_within<R: Read>(alloc: Global, reader: &mut R, limit: usize) -> Result<Vec<u8>, FileNo>
     ensures whole { IfOk result (λ bytes. IfSome (R.remaining reader.old) (λ left. bytes.items ≡ left)) }
     ensures within { IfOk result (λ bytes. vec_len bytes ≤ limit) }
     ensures too_long { IsErrOf result FileNo.TooLong → IfSome (R.remaining reader.old) (λ left. limit < length left) }

@@ -1,4 +1,5 @@
-ghost use Rattle.std.specs.Prelude.{◌≡◌, ◌≤◌, ◌<◌, ℕ, List, Option, IfOk, length};
+ghost use Rattle.std.specs.Prelude.{◌≤◌, ◌<◌, IfOk, length};
+ghost use Rattle.world_io.specs.Seen.{SinkSeen};
 ghost use Rattle.world_io.specs.Taken.{TakesFront, CountsWrite};
 
 use thiserror::Error;
@@ -11,18 +12,15 @@ pub struct Failed;
 /// What takes bytes: a file, a stream, or a buffer. It tells which bytes it has taken, or tells nothing, and counts its
 /// faults in a count that never falls and stays at its last value.
 pub trait Sink {
-    /// The bytes taken so far, where that is told.
-    ghost taken: { Self → Option (List ℕ) };
-
-    /// How many writes failed.
-    ghost faults: { Self → ℕ };
+    /// The bytes taken so far, where that is told, and how many writes failed.
+    ghost seen: { Self → SinkSeen };
 
     /// Takes a prefix of the piece and answers its length, at least 1 where the piece is not empty. `Failed` comes only
     /// where the count of faults rose, and then nothing is taken.
     fn write(&mut self, piece: &[u8]) -> Result<usize, Failed>
-        ensures takes { TakesFront (taken self.old) (taken self.new) piece.now result }
+        ensures takes { TakesFront (seen self.old).taken (seen self.new).taken piece.now result }
         ensures within { IfOk result (λ n. n ≤ length piece.now) }
         ensures progress { IfOk result (λ n. 0 < length piece.now → 0 < n) }
-        ensures counts { CountsWrite result (faults self.old) (faults self.new) }
-        ensures later { faults self.old ≤ faults self.new };
+        ensures counts { CountsWrite result (seen self.old).faults (seen self.new).faults }
+        ensures later { (seen self.old).faults ≤ (seen self.new).faults };
 }

@@ -6,6 +6,6 @@ use Rattle.chocola.proofs.lines.write_pieces.Given as goal
 
 abbrev pub invariant-loop-piece : goal.invariant-loop-piece
 invariant-loop-piece g l = record {
-  taken : g.K.Sink.taken l.sink ≡ append_known (g.K.Sink.taken l.fn.sink) (flat_map (λ piece. piece.now) (take l.piece-index l.pieces));
-  faults : g.K.Sink.faults l.sink ≡ g.K.Sink.faults l.fn.sink;
+  taken : (g.K.Sink.seen l.sink).taken ≡ append_known (g.K.Sink.seen l.fn.sink).taken (flat_map (λ piece. piece.now) (take l.piece-index l.pieces));
+  faults : (g.K.Sink.seen l.sink).faults ≡ (g.K.Sink.seen l.fn.sink).faults;
 }

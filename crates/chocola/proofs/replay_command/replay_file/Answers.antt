@@ -5,9 +5,9 @@ use Rattle.chocola.proofs.replay_command.replay_file.Goals as goal
 
 pub returns-in-Ok-clause-answers : goal.returns-in-Ok-clause-answers
 returns-in-Ok-clause-answers g c =
-    replay_loaded c.args.file.now c.args.trace.now _ _ c.replay_given.result c.in-Ok.given.program c.in-Ok.given.trace c.in-Ok.ensures.loads.0 c.in-Ok.ensures.loads.1 c.replay_given.ensures.replay
-    c.replay_given.ensures.not_written (record { held = c.in-Ok.ensures.same; faults = c.in-Ok.ensures.writes })
-    c.replay_given.ensures.said c.replay_given.ensures.said_at_most c.replay_given.ensures.end_said
+    replay_loaded c.args.file.now c.args.trace.now _ _ c.replay_given.result c.in-Ok.given.program c.in-Ok.given.trace c.in-Ok.ensures.loads.0 c.in-Ok.ensures.loads.1 c.in-Ok.ensures.loads.2
+    c.replay_given.ensures.replay c.replay_given.ensures.unfailed c.replay_given.ensures.not_written (record { held = c.in-Ok.ensures.same; faults = c.in-Ok.ensures.writes })
+    c.replay_given.ensures.said c.replay_given.ensures.said_at_most c.replay_given.ensures.end_said c.replay_given.ensures.differs_said
 
 pub returns-in-Err-clause-answers : goal.returns-in-Err-clause-answers
 returns-in-Err-clause-answers g c =

@@ -1,12 +1,15 @@
-use Rattle.std.proofs.Common.{refl}
+use Rattle.std.proofs.Common.{◌∙◌, refl}
 use Rattle.chocola.proofs.Answering.{run_error, run_loaded}
+use Rattle.chocola.proofs.Tracing.{KeepsTrace-read}
 use Rattle.chocola.proofs.run_command.run_file.Goals as goal
 
 pub returns-in-Ok-clause-answers : goal.returns-in-Ok-clause-answers
 returns-in-Ok-clause-answers g c =
-    run_loaded c.args.file.now _ _ c.run_program.result c.in-Ok.program c.in-Ok.ensures.loads c.args.limits c.args.trace.now
-    (g.F.Files.held c.load.new.files) (g.F.Files.read_faults c.load.new.files) (g.F.Files.write_faults c.load.new.files) c.in-Ok.ensures.same c.in-Ok.ensures.writes
-    c.run_program.ensures.statuses c.run_program.ensures.finished c.run_program.ensures.ended c.run_program.ensures.trace c.run_program.ensures.not_written c.run_program.ensures.detail
+    run_loaded c.args.file.now _ _ c.run_program.result c.in-Ok.program c.in-Ok.ensures.loads.0 (c.run_program.ensures.reads ∙ c.in-Ok.ensures.loads.1) c.run_program.ensures.statuses
+    (λ seven six. let none = c.run_program.ensures.unfailed seven six in record { out = none.out; err = none.err; files = none.files ∙ c.in-Ok.ensures.writes })
+    c.args.limits c.args.trace.now c.run_program.ensures.finished c.run_program.ensures.ended
+    (KeepsTrace-read c.args.limits c.args.trace.now _ _ (g.F.Files.seen c.load.new.files) c.run_program.result c.in-Ok.ensures.same c.in-Ok.ensures.writes c.run_program.ensures.trace)
+    (rw c.in-Ok.ensures.writes at c.run_program.ensures.not_written) c.run_program.ensures.detail
     c.run_program.ensures.said c.run_program.ensures.said_at_most c.run_program.ensures.end_said
 
 pub returns-in-Err-clause-answers : goal.returns-in-Err-clause-answers

@@ -1,8 +1,8 @@
 use Rattle.std.proofs.Common.{[], ◌∙◌, sym, ap, is_some}
-use Rattle.value_ops.specs.Apply.{limited}
-use Rattle.value_ops.specs.Parts.{is_key}
-use Rattle.value_ops.proofs.EntrySteps.{test_passed, put_more, put_done}
-use Rattle.serial_model.specs.Operation.{outcome_of}
+use Rattle.value_core.specs.primitives.Apply.{limited}
+use Rattle.value_core.specs.primitives.Parts.{is_key}
+use Rattle.value_core.proofs.primitives.EntrySteps.{test_passed, put_more, put_done}
+use Rattle.serial_model.specs.Operation.{action_of}
 use Rattle.eval_step.proofs.operation.mapped.Goals as goal
 
 pub loop-index-preserved : goal.loop-index-preserved
@@ -17,4 +17,4 @@ loop-index-preserved c =
 pub returns : goal.returns
 returns c =
     c.limited.ensures
-    ∙ ap (λ r. outcome_of (limited r)) (put_done c.args.entries.now c.loop-index.index c.loop-index.pairs [] c.loop-index-test.false c.loop-index.invariant.keys c.loop-index.invariant.left)
+    ∙ ap (λ r. action_of (limited r)) (put_done c.args.entries.now c.loop-index.index c.loop-index.pairs [] c.loop-index-test.false c.loop-index.invariant.keys c.loop-index.invariant.left)

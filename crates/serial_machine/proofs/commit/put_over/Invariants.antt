@@ -1,5 +1,5 @@
 use Rattle.std.proofs.Common.{◌≡◌}
-use Rattle.serial_model.specs.Named.{over}
+use Rattle.value_core.specs.Named.{over}
 use Rattle.serial_machine.proofs.commit.put_over.Given as goal
 
 abbrev pub invariant-loop-name : goal.invariant-loop-name

@@ -1,11 +1,12 @@
 use Rattle.std.proofs.Common.{◌∙◌, sym, ap, subst, Option}
 use Rattle.std.specs.Option.{option_copied_mut, option_map}
 use Rattle.serial_model.specs.declared.actor_state.ActorState.{ActorState}
-use Rattle.serial_model.specs.Named.{with_named}
+use Rattle.value_core.specs.Named.{with_named}
 use Rattle.serial_model.specs.Step.{after_turn}
-use Rattle.serial_machine.specs.declared.unit.Becoming.{Becoming}
-use Rattle.serial_machine.specs.Units.{IsFreed, becoming_of}
-use Rattle.serial_machine.proofs.Kept.{found_named, written_is_put}
+use Rattle.serial_units.specs.declared.unit.Becoming.{Becoming}
+use Rattle.serial_machine.specs.Actors.{IsFreed}
+use Rattle.serial_units.specs.Units.{becoming_of}
+use Rattle.value_core.proofs.NameMaps.{found_named, written_is_put}
 use Rattle.serial_machine.proofs.run.free.Goals as goal
 
 pub returns-in-Some : goal.returns-in-Some

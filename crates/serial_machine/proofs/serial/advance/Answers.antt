@@ -4,8 +4,8 @@ use Rattle.serial_model.specs.State.{Setup}
 use Rattle.serial_model.specs.Step.{step}
 use Rattle.serial_machine.specs.Now.{state_after, IsStepped}
 use Rattle.serial_machine.specs.Standing.{IsAdvanced}
-use Rattle.serial_machine.proofs.Standings.{not_ended}
-use Rattle.serial_machine.proofs.Serials.{advanced_on, advanced_still, advanced_over, first_at, going_first, on_err_of, over_first}
+use Rattle.serial_machine.proofs.Standing.{not_ended}
+use Rattle.serial_machine.proofs.SerialRuns.{advanced_on, advanced_still, advanced_over, first_at, going_first, on_err_of, over_first}
 use Rattle.serial_machine.proofs.serial.advance.Goals as goal
 
 pub returns-then-is_over-clause-advanced : goal.returns-then-is_over-clause-advanced

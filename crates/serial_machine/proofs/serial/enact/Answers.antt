@@ -3,7 +3,7 @@ use Rattle.std.proofs.lemmas.Result.{IfOk-weaker}
 use Rattle.serial_model.specs.Step.{step}
 use Rattle.serial_machine.specs.Now.{IsStepped}
 use Rattle.serial_model.specs.State.{Setup}
-use Rattle.serial_machine.proofs.Standings.{step_run, step_take}
+use Rattle.serial_machine.proofs.Standing.{step_run, step_take}
 use Rattle.serial_machine.proofs.serial.enact.Goals as goal
 
 pub returns-in-Run : goal.returns-in-Run

@@ -2,8 +2,8 @@ use Rattle.std.proofs.Common.{◌≡◌, ap}
 use Rattle.std.specs.Option.{option_copied_mut}
 use Rattle.std.proofs.lemmas.Result.{on_ok_weaker}
 use Rattle.serial_model.specs.declared.actor_state.ActorState.{ActorState}
-use Rattle.serial_machine.specs.Units.{turning}
-use Rattle.serial_machine.proofs.Kept.{found_named, changed}
+use Rattle.serial_machine.specs.Actors.{turning}
+use Rattle.value_core.proofs.NameMaps.{found_named, changed}
 use Rattle.serial_machine.proofs.take.begin.Goals as goal
 
 pub returns-in-Some : goal.returns-in-Some

@@ -1,4 +1,4 @@
-use Rattle.serial_model.proofs.Lengths.{entries_are_bounded}
+use Rattle.serial_model.proofs.runs.Lengths.{entries_are_bounded}
 use Rattle.serial_model.proofs.laws.entries_are_bounded.Goals as goal
 
 -- src/laws.rt:25:1

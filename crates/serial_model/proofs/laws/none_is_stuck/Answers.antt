@@ -1,5 +1,5 @@
-use Rattle.serial_model.proofs.Stuck.{first-is-enabled}
-use Rattle.serial_model.proofs.TaskKeeps.{transactions-keep}
+use Rattle.serial_model.proofs.runs.Stuck.{first-is-enabled}
+use Rattle.serial_model.proofs.tasks.TaskKeeps.{transactions-keep}
 use Rattle.serial_model.proofs.laws.none_is_stuck.Goals as goal
 
 pub returns : goal.returns

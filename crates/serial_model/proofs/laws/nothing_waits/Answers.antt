@@ -1,5 +1,5 @@
-use Rattle.serial_model.proofs.Stuck.{nothing-waits}
-use Rattle.serial_model.proofs.TaskKeeps.{transactions-keep}
+use Rattle.serial_model.proofs.runs.Stuck.{nothing-waits}
+use Rattle.serial_model.proofs.tasks.TaskKeeps.{transactions-keep}
 use Rattle.serial_model.proofs.laws.nothing_waits.Goals as goal
 
 pub returns : goal.returns

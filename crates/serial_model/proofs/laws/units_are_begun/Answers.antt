@@ -1,4 +1,4 @@
-use Rattle.serial_model.proofs.Begun.{units_are_begun}
+use Rattle.serial_model.proofs.runs.Begun.{units_are_begun}
 use Rattle.serial_model.proofs.laws.units_are_begun.Goals as goal
 
 -- src/laws.rt:33:1

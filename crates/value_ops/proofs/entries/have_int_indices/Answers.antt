@@ -1,6 +1,6 @@
 use Rattle.std.proofs.Common.{sym}
-use Rattle.value_ops.specs.Kinds.{is_int}
-use Rattle.value_ops.proofs.EntrySteps.{test_passed, test_failed, test_done}
+use Rattle.value_core.specs.primitives.Kinds.{is_int}
+use Rattle.value_core.proofs.primitives.EntrySteps.{test_passed, test_failed, test_done}
 use Rattle.value_ops.proofs.entries.have_int_indices.Goals as goal
 
 pub loop-index-preserved : goal.loop-index-preserved

@@ -1,7 +1,7 @@
 use Rattle.std.proofs.Common.{◌≡◌, ◌*◌, drop}
 use Rattle.std.specs.List.{list_all}
-use Rattle.value_ops.specs.Kinds.{is_int}
-use Rattle.value_ops.specs.Parts.{paired}
+use Rattle.value_core.specs.primitives.Kinds.{is_int}
+use Rattle.value_core.specs.primitives.Parts.{paired}
 use Rattle.value_ops.proofs.entries.have_int_indices.Given as goal
 
 abbrev pub invariant-loop-index : goal.invariant-loop-index

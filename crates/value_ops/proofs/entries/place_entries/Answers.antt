@@ -1,8 +1,8 @@
 use Rattle.std.proofs.Common.{sym, ap, ◌∙◌, rules, w64}
 use Rattle.std.proofs.lemmas.Int.{to_z-of_z}
 use mir.Val.{SFits}
-use Rattle.value_ops.specs.Parts.{placed}
-use Rattle.value_ops.proofs.EntrySteps.{place_done, place_stuck}
+use Rattle.value_core.specs.primitives.Parts.{placed}
+use Rattle.value_core.proofs.primitives.EntrySteps.{place_done, place_stuck}
 use Rattle.value_ops.proofs.entries.place_entries.Goals as goal
 
 pub returns-then-not-branch : goal.returns-then-not-branch

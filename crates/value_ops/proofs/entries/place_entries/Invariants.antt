@@ -1,5 +1,5 @@
 use Rattle.std.proofs.Common.{◌≡◌, ◌*◌, drop, fold, Some}
-use Rattle.value_ops.specs.Parts.{paired, place_entry}
+use Rattle.value_core.specs.primitives.Parts.{paired, place_entry}
 use Rattle.value_ops.proofs.entries.place_entries.Given as goal
 
 abbrev pub invariant-loop-index : goal.invariant-loop-index

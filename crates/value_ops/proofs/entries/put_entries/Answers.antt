@@ -1,6 +1,6 @@
 use Rattle.std.proofs.Common.{sym, ap, ◌∙◌, is_some}
-use Rattle.value_ops.specs.Parts.{is_key}
-use Rattle.value_ops.proofs.EntrySteps.{test_passed, put_more, put_done}
+use Rattle.value_core.specs.primitives.Parts.{is_key}
+use Rattle.value_core.proofs.primitives.EntrySteps.{test_passed, put_more, put_done}
 use Rattle.value_ops.proofs.entries.put_entries.Goals as goal
 
 pub loop-index-preserved : goal.loop-index-preserved

@@ -1,6 +1,6 @@
 use Rattle.std.proofs.Common.{◌≡◌, ◌*◌, drop, fold}
 use Rattle.std.specs.List.{list_all}
-use Rattle.value_ops.specs.Parts.{paired, is_key, put_entry}
+use Rattle.value_core.specs.primitives.Parts.{paired, is_key, put_entry}
 use Rattle.value_ops.proofs.entries.put_entries.Given as goal
 
 abbrev pub invariant-loop-index : goal.invariant-loop-index

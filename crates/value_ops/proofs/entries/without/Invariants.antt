@@ -1,5 +1,5 @@
 use Rattle.std.proofs.Common.{◌≡◌, drop, fold}
-use Rattle.value_ops.specs.Parts.{drop_key}
+use Rattle.value_core.specs.primitives.Parts.{drop_key}
 use Rattle.value_ops.proofs.entries.without.Given as goal
 
 abbrev pub invariant-loop-key : goal.invariant-loop-key

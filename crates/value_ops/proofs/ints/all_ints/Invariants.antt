@@ -1,6 +1,6 @@
 use Rattle.std.proofs.Common.{◌≡◌, drop}
 use Rattle.std.specs.List.{list_all}
-use Rattle.value_ops.specs.Kinds.{is_int}
+use Rattle.value_core.specs.primitives.Kinds.{is_int}
 use Rattle.value_ops.proofs.ints.all_ints.Given as goal
 
 abbrev pub invariant-loop-value : goal.invariant-loop-value

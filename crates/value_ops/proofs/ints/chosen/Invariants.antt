@@ -1,6 +1,6 @@
 use Rattle.std.proofs.Common.{◌≡◌, map, fold, drop}
 use Rattle.value_ops.specs.Ints.{choice_of}
-use Rattle.value_ops.specs.Kinds.{int_of}
+use Rattle.value_core.specs.primitives.Kinds.{int_of}
 use Rattle.value_ops.proofs.ints.chosen.Given as goal
 
 abbrev pub invariant-loop-index : goal.invariant-loop-index

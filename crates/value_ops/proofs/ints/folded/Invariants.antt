@@ -1,6 +1,7 @@
 use Rattle.std.proofs.Common.{◌≡◌, ◌≤◌, map, drop, length}
-use Rattle.value_ops.specs.Ints.{folded, step_of}
-use Rattle.value_ops.specs.Kinds.{int_of}
+use Rattle.value_core.specs.primitives.Ints.{folded}
+use Rattle.value_ops.specs.Ints.{step_of}
+use Rattle.value_core.specs.primitives.Kinds.{int_of}
 use Rattle.value_ops.proofs.ints.folded.Given as goal
 
 abbrev pub invariant-loop-index : goal.invariant-loop-index

@@ -1,6 +1,7 @@
 use Rattle.std.proofs.Common.{◌≡◌, ◌-◌, map, drop}
-use Rattle.value_ops.specs.Ints.{in_order, relation_of}
-use Rattle.value_ops.specs.Kinds.{int_of}
+use Rattle.value_core.specs.primitives.Ints.{in_order}
+use Rattle.value_ops.specs.Ints.{relation_of}
+use Rattle.value_core.specs.primitives.Kinds.{int_of}
 use Rattle.value_ops.proofs.ints.is_in_order.Given as goal
 
 abbrev pub invariant-loop-index : goal.invariant-loop-index

@@ -1,5 +1,5 @@
 use Rattle.std.proofs.Common.{◌≡◌, ◌++◌, map, drop}
-use Rattle.value_ops.specs.Parts.{key_value}
+use Rattle.value_core.specs.primitives.Parts.{key_value}
 use Rattle.value_ops.proofs.parts.keys_of.Given as goal
 
 abbrev pub invariant-loop-pair : goal.invariant-loop-pair

@@ -1,6 +1,6 @@
 use Rattle.std.proofs.Common.{◌≡◌, drop}
 use Rattle.std.specs.List.{list_all}
-use Rattle.value_ops.specs.Equality.{same_value}
+use Rattle.value_core.specs.primitives.Equality.{same_value}
 use Rattle.value_ops.proofs.table.all_same.Given as goal
 
 abbrev pub invariant-loop-other : goal.invariant-loop-other

@@ -1,4 +1,4 @@
-use Rattle.value_ops.proofs.Same.{same_answer}
+use Rattle.value_core.proofs.primitives.Same.{same_answer}
 use Rattle.value_ops.proofs.table.is_same.Goals as goal
 
 pub returns : goal.returns

@@ -5,7 +5,7 @@ use Rattle.std.proofs.lemmas.Bool.{cases_lt}
 use Rattle.std.proofs.lemmas.List.{get_or_default}
 use Rattle.std.proofs.lemmas.Cmp.{nat_list_eq_equiv}
 use Rattle.value_ops.specs.declared.words.TheConstants.{ALL}
-use Rattle.value_ops.specs.Words.{op_word}
+use Rattle.value_core.specs.primitives.Words.{op_word}
 use Rattle.value_ops.proofs.OpPlaces.{no_op}
 use Rattle.value_ops.proofs.words.op_named.Goals as goal
 

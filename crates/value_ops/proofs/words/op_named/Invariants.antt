@@ -1,7 +1,7 @@
 use Rattle.std.proofs.Common.{◌≡◌, ◌≢◌, ℕ, ◌<◌, get_or}
 use Rattle.value_core.specs.declared.op.Op.{Op}
 use Rattle.value_ops.specs.declared.words.TheConstants.{ALL}
-use Rattle.value_ops.specs.Words.{op_word}
+use Rattle.value_core.specs.primitives.Words.{op_word}
 use Rattle.value_ops.proofs.words.op_named.Given as goal
 
 abbrev pub invariant-loop-op : goal.invariant-loop-op

@@ -2,7 +2,7 @@ use Rattle.std.proofs.Common.{◌++◌}
 use Rattle.std.specs.Prelude.{codes}
 use Rattle.value_core.specs.declared.pair.Pair.{Pair}
 use Rattle.value_core.specs.declared.value.Value.{Value}
-use Rattle.value_print.specs.Texts.{value_text, key_text}
+use Rattle.value_core.specs.Texts.{value_text, key_text}
 use Rattle.value_print.proofs.Joins.{between, value_text_map}
 use Rattle.value_print.proofs.print.+print.Goals as goal
 

@@ -1,6 +1,6 @@
 use Rattle.std.proofs.Common.{◌≡◌, ◌++◌, drop, map, true}
 use Rattle.std.specs.Prelude.{codes, ◌==◌}
-use Rattle.value_print.specs.Texts.{key_text, value_text}
+use Rattle.value_core.specs.Texts.{key_text, value_text}
 use Rattle.value_print.proofs.Joins.{left_at}
 use Rattle.value_print.proofs.print.+print.Given as goal
 

@@ -1,6 +1,6 @@
 use Rattle.std.proofs.Common.{◌≡◌, ◌++◌, drop}
 use Rattle.std.specs.List.{flat_map}
-use Rattle.value_print.specs.Texts.{escaped}
+use Rattle.value_core.specs.Texts.{escaped}
 use Rattle.value_print.proofs.print.push_quoted.Given as goal
 
 abbrev pub invariant-loop-byte : goal.invariant-loop-byte

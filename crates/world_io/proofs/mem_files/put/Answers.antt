@@ -1,5 +1,5 @@
 use Rattle.std.proofs.Common.{◌≡◌, ◌∙◌, ◌∷◌, ◌++◌, List, [], ℕ, refl, sym, ap}
-use Rattle.std.specs.Prelude.{Result, Ok, Err, OnOk, IsErr, Option, Some}
+use Rattle.std.specs.Prelude.{Result, Ok, Err, OnOk, IsErr, Some}
 use Rattle.world_io.specs.declared.files.WriteNo.{WriteNo}
 use Rattle.world_io.specs.declared.files.FileItem.{FileItem}
 use Rattle.world_io.specs.Held.{file_under}

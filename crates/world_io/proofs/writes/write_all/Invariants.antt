@@ -6,8 +6,8 @@ use Rattle.world_io.proofs.writes.write_all.Given as goal
 abbrev pub invariant-loop-at : goal.invariant-loop-at
 invariant-loop-at g l = record {
   within : l.at ≤ length l.bytes;
-  taken : g.K.Sink.taken l.sink ≡ append_known (g.K.Sink.taken l.fn.sink) (take l.at l.bytes);
-  faults : g.K.Sink.faults l.sink ≡ g.K.Sink.faults l.fn.sink;
+  taken : (g.K.Sink.seen l.sink).taken ≡ append_known (g.K.Sink.seen l.fn.sink).taken (take l.at l.bytes);
+  faults : (g.K.Sink.seen l.sink).faults ≡ (g.K.Sink.seen l.fn.sink).faults;
 }
 
 abbrev pub decreases-loop-at : goal.decreases-loop-at

@@ -14,7 +14,7 @@ use Rattle.scope_check.proofs.resolver.Resolver.+resolve.Goals as goal
 pub bound-loop-index-preserved : goal.bound-loop-index-preserved
 bound-loop-index-preserved t c =
     let two = meanings_two c.args.parts.now c.loop-index.index c.index-parts-index.result c.index-parts-index-in-loop-index.result c.loop-index-test.true (sym c.index-parts-index.is) (sym c.index-parts-index-in-loop-index.is) in
-    rw c.in_ok-push.ensures (bound_step _ _ _ _ c.args.stand (meaning c.index-parts-index.result) (meaning c.index-parts-index-in-loop-index.result) _ _ _ _ _ (subst (λ ms. StillBinds c.args.self.now c.loop-index.self c.loop-index.exprs (bound ms (scope_in c.loop-index.self c.args.stand) c.loop-index.self.loops) (bound (meanings c.args.parts.now) (scope_in c.args.self.now c.args.stand) c.args.self.now.loops)) two c.loop-index.invariant) c.in_ok-name.ensures c.in_ok-expr.ensures)
+    rw c.in_ok-add.ensures.ok (bound_step _ _ _ _ c.args.stand (meaning c.index-parts-index.result) (meaning c.index-parts-index-in-loop-index.result) _ _ _ _ _ (subst (λ ms. StillBinds c.args.self.now c.loop-index.self c.loop-index.exprs (bound ms (scope_in c.loop-index.self c.args.stand) c.loop-index.self.loops) (bound (meanings c.args.parts.now) (scope_in c.args.self.now c.args.stand) c.args.self.now.loops)) two c.loop-index.invariant) c.in_ok-name.ensures c.in_ok-expr.ensures)
 
 pub bound-returns : goal.bound-returns
 bound-returns t c = bound_end _ _ _ _ _ _ (short_rest c.args.parts.now c.loop-index.index c.loop-index-test.false) c.loop-index.invariant
@@ -28,7 +28,7 @@ each-loop-index-preserved t c =
     let within = within_take c.loop-index.self.locals _ c.depth-depth.result c.loop-index.invariant.locals c.depth-depth.ensures in
     let given : Gives c.loop-index.self c.value.new.self ((meaning c.index-parts-index.result).value (scope_in c.loop-index.self (part_stand c.args.rule index (is_none (meanings (drop (index + 1) parts))) c.args.stand)) c.loop-index.self.loops) c.in_ok-expr.expr
     = rw (last_is parts (index + 1) (omega arith), ← c.stand_of.ensures) c.in_ok-expr.ensures in
-    rw c.in_ok-push.ensures (each_step _ _ _ _ _ c.args.rule index c.args.stand (meaning c.index-parts-index.result) (meanings (drop (index + 1) parts)) _ _ _ within (subst (λ ms. StillGives c.args.self.now c.loop-index.self c.depth-depth.result c.loop-index.exprs (each c.args.rule index (scope_in c.loop-index.self c.args.stand) ms c.loop-index.self.loops) (each c.args.rule 0 (scope_in c.args.self.now c.args.stand) (meanings parts) c.args.self.now.loops)) rest c.loop-index.invariant) given c.in_ok-pass.ensures)
+    rw c.in_ok-add.ensures.ok (each_step _ _ _ _ _ c.args.rule index c.args.stand (meaning c.index-parts-index.result) (meanings (drop (index + 1) parts)) _ _ _ within (subst (λ ms. StillGives c.args.self.now c.loop-index.self c.depth-depth.result c.loop-index.exprs (each c.args.rule index (scope_in c.loop-index.self c.args.stand) ms c.loop-index.self.loops) (each c.args.rule 0 (scope_in c.args.self.now c.args.stand) (meanings parts) c.args.self.now.loops)) rest c.loop-index.invariant) given c.in_ok-pass.ensures)
 
 -- a loop whose bindings and body are there
 pub loop_form-returns : goal.loop_form-returns

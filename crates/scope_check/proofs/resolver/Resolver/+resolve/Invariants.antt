@@ -1,4 +1,4 @@
-use Rattle.std.proofs.Common.{◌≡◌, ◌≤◌, ◌+◌, ◌*◌, drop, length}
+use Rattle.std.proofs.Common.{◌+◌, ◌*◌, drop}
 use Rattle.scope_check.specs.Heads.{bound}
 use Rattle.scope_check.specs.Moves.{scope_in}
 use Rattle.scope_check.specs.Parts.{each}

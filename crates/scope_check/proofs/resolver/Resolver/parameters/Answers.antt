@@ -1,4 +1,4 @@
-use Rattle.std.proofs.Common.{◌+◌, drop, [], refl, sym, subst, ◌∙◌}
+use Rattle.std.proofs.Common.{◌+◌, drop, [], refl, sym, subst}
 use Rattle.scope_check.specs.Moves.{scope_in}
 use Rattle.scope_check.specs.Tops.{parameters}
 use Rattle.scope_check.specs.Value.{meaning, meanings}

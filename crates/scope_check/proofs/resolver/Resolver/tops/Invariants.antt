@@ -1,4 +1,4 @@
-use Rattle.std.proofs.Common.{◌≡◌, [], drop}
+use Rattle.std.proofs.Common.{drop}
 use Rattle.scope_check.specs.Tops.{tops_of}
 use Rattle.scope_check.proofs.Remaining.{StillTops}
 use Rattle.scope_check.proofs.resolver.Resolver.tops.Given as goal

@@ -1,7 +1,7 @@
 use Rattle.std.proofs.Common.{◌∙◌, ap}
 use Rattle.std.specs.Option.{option_copied}
 use Rattle.serial_model.specs.State.{UnitState}
-use Rattle.serial_machine.proofs.Nows.{same_unit, no_unit}
+use Rattle.serial_units.proofs.UnitViews.{same_unit, no_unit}
 use Rattle.serial_machine.proofs.now.Now.actor_of.Goals as goal
 
 pub returns-in-Some : goal.returns-in-Some

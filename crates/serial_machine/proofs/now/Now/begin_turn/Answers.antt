@@ -2,8 +2,8 @@ use Rattle.std.proofs.Common.{refl, subst, Option, List}
 use Rattle.std.proofs.lemmas.Result.{on_ok_weaker}
 use Rattle.value_core.specs.declared.value.Value.{Value}
 use Rattle.serial_model.specs.Step.{queue_of}
-use Rattle.serial_machine.specs.Units.{IsTaken}
-use Rattle.serial_machine.proofs.Takes.{begun_turn}
+use Rattle.actor_queues.specs.Waiting.{IsTaken}
+use Rattle.serial_machine.proofs.ActorTurns.{begun_turn}
 use Rattle.serial_machine.proofs.now.Now.begin_turn.Goals as goal
 
 pub returns : goal.returns

@@ -1,8 +1,8 @@
 use Rattle.std.proofs.Common.{◌∙◌, refl, ap}
 use Rattle.std.proofs.lemmas.Result.{on_ok_weaker}
 use Rattle.value_core.specs.declared.value.Value.{Value}
-use Rattle.serial_model.specs.Named.{Named, over}
-use Rattle.serial_machine.proofs.Asked.{refs_over, commits_done}
+use Rattle.value_core.specs.Named.{Named, over}
+use Rattle.serial_machine.proofs.UnitRequests.{refs_over, commits_done}
 use Rattle.serial_machine.proofs.now.Now.commit.Goals as goal
 
 pub returns : goal.returns

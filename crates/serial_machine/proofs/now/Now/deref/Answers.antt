@@ -1,7 +1,7 @@
 use Rattle.std.proofs.Common.{◌∙◌, sym, ap}
 use Rattle.std.specs.Option.{option_copied}
-use Rattle.serial_model.specs.Named.{named}
-use Rattle.serial_machine.proofs.Asked.{found_done}
+use Rattle.value_core.specs.Named.{named}
+use Rattle.serial_machine.proofs.UnitRequests.{found_done}
 use Rattle.serial_machine.proofs.now.Now.deref.Goals as goal
 
 pub returns-in_ok-reply-in-Some : goal.returns-in_ok-reply-in-Some

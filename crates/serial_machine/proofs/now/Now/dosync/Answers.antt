@@ -1,7 +1,7 @@
 use Rattle.std.proofs.Common.{◌∙◌, sym, ap, true, false}
 use Rattle.serial_model.specs.Task as task
-use Rattle.serial_machine.specs.Task.{outcome_of}
-use Rattle.serial_machine.proofs.Transacts.{after_it, escaped, committed}
+use Rattle.serial_units.specs.Task.{outcome_of}
+use Rattle.serial_machine.proofs.Transactions.{after_it, escaped, committed}
 use Rattle.serial_machine.proofs.now.Now.dosync.Goals as goal
 
 pub returns-in_ok-fail-in-Value : goal.returns-in_ok-fail-in-Value

@@ -1,6 +1,6 @@
 use Rattle.std.proofs.Common.{refl}
 use Rattle.std.proofs.lemmas.Result.{on_ok_weaker}
-use Rattle.serial_machine.proofs.Runs.{finished_unit}
+use Rattle.serial_machine.proofs.UnitSteps.{finished_unit}
 use Rattle.serial_machine.proofs.now.Now.end_unit.Goals as goal
 
 pub returns : goal.returns

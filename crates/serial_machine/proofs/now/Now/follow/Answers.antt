@@ -3,7 +3,7 @@ use Rattle.std.proofs.lemmas.Result.{IfOk-weaker}
 use Rattle.serial_model.specs.declared.halt.Halt.{Halt}
 use Rattle.serial_model.specs.Step as row
 use Rattle.serial_machine.specs.Now.{Tries}
-use Rattle.serial_machine.proofs.Transacts.{done_so}
+use Rattle.serial_machine.proofs.Transactions.{done_so}
 use Rattle.serial_machine.proofs.now.Now.follow.Goals as goal
 
 pub returns-in-Value : goal.returns-in-Value

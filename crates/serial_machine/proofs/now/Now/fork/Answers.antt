@@ -3,8 +3,8 @@ use Rattle.std.proofs.lemmas.Result.{on_ok_weaker}
 use Rattle.value_core.specs.declared.value.Value.TheVariants as value
 use Rattle.serial_model.specs.State.{new_unit}
 use Rattle.serial_model.specs.Step as row
-use Rattle.serial_model.proofs.NamedLaws.{named-other}
-use Rattle.serial_machine.proofs.Asked.{makes, not_allowed, is_allowed, full_is, more_is}
+use Rattle.value_core.proofs.NamedLaws.{named-other}
+use Rattle.serial_machine.proofs.UnitRequests.{makes, not_allowed, is_allowed, full_is, more_is}
 use Rattle.serial_machine.proofs.now.Now.fork.Goals as goal
 
 pub returns-then-self-units : goal.returns-then-self-units

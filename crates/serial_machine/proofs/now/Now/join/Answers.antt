@@ -1,7 +1,7 @@
 use Rattle.std.proofs.Common.{◌∙◌, sym, ap}
 use Rattle.std.specs.Option.{option_copied}
 use Rattle.serial_model.specs.Step as row
-use Rattle.serial_machine.proofs.Asked.{found_done}
+use Rattle.serial_machine.proofs.UnitRequests.{found_done}
 use Rattle.serial_machine.proofs.now.Now.join.Goals as goal
 
 pub returns-in_ok-reply-in-Some : goal.returns-in_ok-reply-in-Some

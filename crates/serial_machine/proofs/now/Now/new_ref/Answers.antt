@@ -1,8 +1,8 @@
 use Rattle.std.proofs.Common.{refl}
 use Rattle.std.proofs.lemmas.Result.{on_ok_weaker}
 use Rattle.value_core.specs.declared.value.Value.TheVariants as value
-use Rattle.serial_model.specs.Named.{with_named}
-use Rattle.serial_machine.proofs.Asked.{makes}
+use Rattle.value_core.specs.Named.{with_named}
+use Rattle.serial_machine.proofs.UnitRequests.{makes}
 use Rattle.serial_machine.proofs.now.Now.new_ref.Goals as goal
 
 pub returns : goal.returns

@@ -1,9 +1,9 @@
 use Rattle.std.proofs.Common.{◌∙◌, ap}
 use Rattle.std.specs.Option.{option_copied}
 use Rattle.std.proofs.lemmas.Result.{IfOk-weaker}
-use Rattle.serial_model.specs.Named.{made_by}
+use Rattle.value_core.specs.Named.{made_by}
 use Rattle.serial_model.specs.State.{UnitState}
-use Rattle.serial_machine.proofs.Nows.{same_unit}
+use Rattle.serial_units.proofs.UnitViews.{same_unit}
 use Rattle.serial_machine.proofs.now.Now.next_made.Goals as goal
 
 pub returns-in-Some-clause-value : goal.returns-in-Some-clause-value

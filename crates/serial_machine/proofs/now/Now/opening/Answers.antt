@@ -1,5 +1,5 @@
 use Rattle.std.proofs.Common.{refl}
-use Rattle.serial_machine.proofs.Serials.{opens, opens_empty}
+use Rattle.serial_machine.proofs.SerialRuns.{opens, opens_empty}
 use Rattle.serial_machine.proofs.now.Now.opening.Goals as goal
 
 pub returns-clause-opening : goal.returns-clause-opening

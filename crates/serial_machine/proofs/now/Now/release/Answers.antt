@@ -2,9 +2,9 @@ use Rattle.std.proofs.Common.{◌∙◌, refl, sym, ap}
 use Rattle.std.specs.Option.{option_copied, option_map}
 use Rattle.std.proofs.lemmas.Result.{on_ok_weaker}
 use Rattle.serial_model.specs.State.{UnitState}
-use Rattle.serial_machine.specs.Units.{becoming_of}
-use Rattle.serial_machine.proofs.Nows.{same_unit, no_unit}
-use Rattle.serial_machine.proofs.Runs.{released_actor, released_none}
+use Rattle.serial_units.specs.Units.{becoming_of}
+use Rattle.serial_units.proofs.UnitViews.{same_unit, no_unit}
+use Rattle.serial_machine.proofs.UnitSteps.{released_actor, released_none}
 use Rattle.serial_machine.proofs.now.Now.release.Goals as goal
 
 pub returns-in-Some-actor-clause-released : goal.returns-in-Some-actor-clause-released

@@ -1,6 +1,6 @@
 use Rattle.std.proofs.Common.{refl}
 use Rattle.std.proofs.lemmas.Result.{on_ok_weaker}
-use Rattle.serial_machine.proofs.Nows.{replied}
+use Rattle.serial_machine.proofs.States.{replied}
 use Rattle.serial_machine.proofs.now.Now.reply.Goals as goal
 
 pub returns : goal.returns

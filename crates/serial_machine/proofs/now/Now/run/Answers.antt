@@ -1,8 +1,9 @@
 use Rattle.std.proofs.Common.{refl, subst, Option}
 use Rattle.std.proofs.lemmas.Result.{IfOk-weaker}
 use Rattle.serial_model.specs.declared.halt.Halt.{Halt}
-use Rattle.serial_machine.specs.Units.{IsRun}
-use Rattle.serial_machine.proofs.Runs.{ran, names_there}
+use Rattle.serial_units.specs.Units.{IsRun}
+use Rattle.serial_machine.proofs.UnitSteps.{ran}
+use Rattle.serial_units.proofs.UnitRuns.{names_there}
 use Rattle.serial_machine.proofs.now.Now.run.Goals as goal
 
 pub follow-requires-clause-there : goal.follow-requires-clause-there

@@ -1,6 +1,6 @@
 use Rattle.std.proofs.Common.{◌∙◌, sym, ap, Some}
 use Rattle.serial_machine.specs.Now.{state_after}
-use Rattle.serial_machine.proofs.Serials.{seen_done, seen_going}
+use Rattle.serial_machine.proofs.SerialRuns.{seen_done, seen_going}
 use Rattle.serial_machine.proofs.now.Now.seen.Goals as goal
 
 pub returns-then-is_over : goal.returns-then-is_over

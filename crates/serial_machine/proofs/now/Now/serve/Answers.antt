@@ -3,7 +3,7 @@ use Rattle.std.proofs.lemmas.Result.{IfOk-weaker}
 use Rattle.serial_model.specs.declared.request.Request.{Request}
 use Rattle.serial_model.specs.Step as row
 use Rattle.serial_machine.specs.Now.{Tries}
-use Rattle.serial_machine.proofs.Transacts.{done_so}
+use Rattle.serial_machine.proofs.Transactions.{done_so}
 use Rattle.serial_machine.proofs.now.Now.serve.Goals as goal
 
 pub returns-in-Print : goal.returns-in-Print

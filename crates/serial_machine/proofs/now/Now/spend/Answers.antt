@@ -1,6 +1,6 @@
 use Rattle.std.proofs.Common.{subst}
 use Rattle.serial_model.specs.declared.end.End.TheVariants as ends
-use Rattle.serial_model.specs.Named.{Name}
+use Rattle.value_core.specs.Named.{Name}
 use Rattle.serial_model.specs.State.{Setup}
 use Rattle.serial_model.specs.Step.{ended}
 use Rattle.serial_machine.specs.Now.{Comes}

@@ -1,9 +1,9 @@
 use Rattle.std.proofs.Common.{◌∙◌, refl, ap}
 use Rattle.std.proofs.lemmas.Result.{on_ok_weaker}
-use Rattle.serial_model.specs.Named.{named}
-use Rattle.serial_model.proofs.NamedLaws.{named-other}
+use Rattle.value_core.specs.Named.{named}
+use Rattle.value_core.proofs.NamedLaws.{named-other}
 use Rattle.serial_machine.specs.declared.now.Now.{Now}
-use Rattle.serial_machine.proofs.Nows.{started}
+use Rattle.serial_machine.proofs.States.{started}
 use Rattle.serial_machine.proofs.now.Now.start.Goals as goal
 
 pub returns-clause-comes : goal.returns-clause-comes

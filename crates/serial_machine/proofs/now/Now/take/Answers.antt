@@ -1,11 +1,11 @@
 use Rattle.std.proofs.Common.{◌∙◌, sym, Bool, arith}
 use Rattle.std.specs.Option.{option_and_then}
-use Rattle.serial_model.specs.Named.{named}
+use Rattle.value_core.specs.Named.{named}
 use Rattle.serial_model.specs.Step as row
 use Rattle.serial_machine.specs.Now.{Steps}
-use Rattle.serial_machine.proofs.Asked.{full_is, more_is}
-use Rattle.serial_machine.proofs.Takes.{units_spent, turn_begins, within}
-use Rattle.serial_machine.proofs.Transacts.{done_so}
+use Rattle.serial_machine.proofs.UnitRequests.{full_is, more_is}
+use Rattle.serial_machine.proofs.ActorTurns.{units_spent, turn_begins, within}
+use Rattle.serial_machine.proofs.Transactions.{done_so}
 use Rattle.serial_machine.proofs.now.Now.take.Goals as goal
 
 pub returns-then-self-units : goal.returns-then-self-units

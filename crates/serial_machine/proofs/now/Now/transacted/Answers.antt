@@ -1,6 +1,6 @@
 use Rattle.std.specs.Option.{option_copied}
 use Rattle.std.proofs.lemmas.Result.{IfOk-weaker}
-use Rattle.serial_machine.proofs.Transacts.{both_ok, around_same, came_so}
+use Rattle.serial_machine.proofs.Transactions.{both_ok, around_same, came_so}
 use Rattle.serial_machine.proofs.now.Now.transacted.Goals as goal
 
 pub returns : goal.returns

@@ -1,7 +1,7 @@
 use Rattle.std.proofs.Common.{◌∙◌, sym, ap}
 use Rattle.std.specs.Option.{option_copied, option_and_then}
-use Rattle.serial_machine.specs.declared.unit.Unit.{Unit}
-use Rattle.serial_machine.proofs.Nows.{finished_of}
+use Rattle.serial_units.specs.declared.unit.Unit.{Unit}
+use Rattle.serial_units.proofs.UnitViews.{finished_of}
 use Rattle.serial_machine.proofs.now.Now.value_of.Goals as goal
 
 pub returns-in-Some : goal.returns-in-Some

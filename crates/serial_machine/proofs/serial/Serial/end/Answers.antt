@@ -7,7 +7,7 @@ use Rattle.serial_model.specs.Replay.{IsOver}
 use Rattle.serial_machine.specs.Progress.{state_of}
 use Rattle.serial_machine.specs.Standing.{IsAt, end_seen}
 use Rattle.serial_model.specs.State.{Setup}
-use Rattle.serial_machine.proofs.Serials.{if_some, not_over_any, seen_over, seen_first}
+use Rattle.serial_machine.proofs.SerialRuns.{if_some, not_over_any, seen_over, seen_first}
 use Rattle.serial_machine.proofs.serial.Serial.end.Goals as goal
 
 pub returns-in-Some-clause-over : goal.returns-in-Some-clause-over

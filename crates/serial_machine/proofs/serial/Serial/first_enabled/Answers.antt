@@ -6,7 +6,7 @@ use Rattle.serial_model.specs.First.{first_of}
 use Rattle.serial_machine.specs.Progress.{state_of}
 use Rattle.serial_machine.specs.Standing.{IsAt}
 use Rattle.serial_model.specs.State.{Setup}
-use Rattle.serial_machine.proofs.Serials.{if_some, first_at}
+use Rattle.serial_machine.proofs.SerialRuns.{if_some, first_at}
 use Rattle.serial_machine.proofs.serial.Serial.first_enabled.Goals as goal
 
 pub returns-in-Some-clause-first : goal.returns-in-Some-clause-first

@@ -4,7 +4,7 @@ use Rattle.core_syntax.specs.Table.{Table}
 use Rattle.core_syntax.specs.WellFormed.{IsWellFormed}
 use Rattle.serial_model.specs.State.{opening}
 use Rattle.serial_machine.specs.Now.{IsNow}
-use Rattle.serial_machine.proofs.Serials.{opens_there}
+use Rattle.serial_machine.proofs.SerialRuns.{opens_there}
 use Rattle.serial_machine.proofs.serial.Serial.new.Goals as goal
 
 pub invariant_of-result : goal.invariant_of-result

@@ -2,7 +2,7 @@ use Rattle.std.proofs.Common.{◌∙◌, sym, ap, subst, Some, [], ◌∷◌, �
 use Rattle.std.specs.Arc.{arc_value}
 use Rattle.serial_model.specs.State.{Setup}
 use Rattle.serial_machine.specs.Standing.{Stands}
-use Rattle.serial_machine.proofs.Serials.{step_done, step_refused, step_failed, stands_replays, units_read}
+use Rattle.serial_machine.proofs.SerialRuns.{step_done, step_refused, step_failed, stands_replays, units_read}
 use Rattle.serial_machine.proofs.serial.Serial.step.Goals as goal
 
 pub advance-requires-clause-units : goal.advance-requires-clause-units

@@ -31,6 +31,9 @@ decreases-bind l = 8 * goal.size-bind l + 2
 abbrev pub decreases-bind_all : goal.decreases-bind_all
 decreases-bind_all l = 8 * goal.size-bind_all l + 3
 
+abbrev pub decreases-callee : goal.decreases-callee
+decreases-callee l = 8 * goal.size-callee l + 1
+
 abbrev pub decreases-if_form : goal.decreases-if_form
 decreases-if_form l = 8 * goal.size-if_form l + 5
 

@@ -1,0 +1,162 @@
+ghost use Rattle.std.specs.Prelude.{◌≡◌, ◌+◌, ◌<◌, ◌≤◌, [], ◌∷◌, ◌++◌, IsOk, OnOk, MatchOption, MatchResult, Some, position, slice_get};
+ghost use Rattle.std.specs.List.{list_any};
+ghost use Rattle.value_core.specs.Named.{same_name};
+ghost use Rattle.actor_mailbox.specs.Messages.{depends_on, from, is_from, settle, settle_first, without, without_first};
+
+use crate::message::Message;
+use std::alloc::{AllocError, Global};
+use std::collections::VecDeque;
+use std::marker::Model;
+use value_core::Name;
+
+/// The messages that have arrived at an actor, in the order in which they arrived. Contracts see them with the room: so
+/// many messages more can be put and no memory is taken.
+#[derive(Drop)]
+pub struct Mailbox {
+    messages: VecDeque<Message>,
+}
+
+impl Model for Mailbox {
+    ghost use Rattle.std.specs.Prelude.{◌-◌};
+    ghost use Rattle.std.specs.VecDeque.{deque_capacity, deque_len};
+    ghost use Rattle.value_core.specs.Roomy.{Roomy, roomy_code};
+    ghost use Rattle.actor_mailbox.specs.contracts.message.Message as message;
+    ghost use Rattle.actor_mailbox.specs.declared.message.Message.{Message};
+
+    ghost Value = { Roomy Message };
+
+    ghost coded = { roomy_code (message.the_row).coded };
+
+    ghost view = { λ m. record { items = m.messages.items; room = deque_capacity m.messages - deque_len m.messages } };
+}
+
+impl Mailbox {
+    /// No messages. It takes no memory.
+    pub fn new(alloc: Global) -> Self
+        ensures { result.items ≡ [] }
+    {
+        Mailbox {
+            messages: VecDeque::new(alloc),
+        }
+    }
+
+    /// Makes room for `more` further messages, or finds no memory. The messages stay, and the room does not shrink.
+    pub fn reserve(&mut self, more: usize) -> Result<(), AllocError>
+        ensures items { self.new.items ≡ self.old.items }
+        ensures room { OnOk result (more ≤ self.new.room) }
+        ensures kept { self.old.room ≤ self.new.room }
+        ensures succeeds { more ≤ self.old.room → IsOk result }
+    {
+        self.messages.reserve(more)
+    }
+
+    /// Appends the message. Where there is room it takes no memory, and succeeds. For want of memory it hands the
+    /// message back, and the messages stay.
+    pub fn put(&mut self, message: Message) -> Result<(), Message>
+        ensures put { MatchResult result (λ _. self.new.items ≡ self.old.items ++ message ∷ []) (λ back. (self.new.items ≡ self.old.items) × (back ≡ message)) }
+        ensures room { 0 < self.old.room → IsOk result × (self.old.room ≤ self.new.room + 1) }
+    {
+        self.messages
+            .push_back(message)
+            .map_err(|refused| refused.value)
+    }
+
+    /// Puts the message before the others. Where there is room it takes no memory, and succeeds. For want of memory it
+    /// hands the message back, and the messages stay.
+    pub fn put_first(&mut self, message: Message) -> Result<(), Message>
+        ensures put { MatchResult result (λ _. self.new.items ≡ message ∷ self.old.items) (λ back. (self.new.items ≡ self.old.items) × (back ≡ message)) }
+        ensures room { 0 < self.old.room → IsOk result × (self.old.room ≤ self.new.room + 1) }
+    {
+        self.messages
+            .push_front(message)
+            .map_err(|refused| refused.value)
+    }
+
+    /// The message that arrived first, and none exactly where there is none.
+    pub fn front(&self) -> Option<&Message>
+        ensures { MatchOption result (self.now.items ≡ []) (λ message. slice_get self.now.items 0 ≡ Some message.now) }
+    {
+        self.messages.front()
+    }
+
+    /// Takes the message that arrived first, and none exactly where there is none. It takes no memory.
+    pub fn take(&mut self) -> Option<Message>
+        ensures taken { MatchOption result ((self.old.items ≡ []) × (self.new.items ≡ [])) (λ message. self.old.items ≡ message ∷ self.new.items) }
+        ensures room { self.old.room ≤ self.new.room }
+    {
+        self.messages.pop_front()
+    }
+
+    /// Takes the first message of that sender, and none exactly where there is none. The others stay. It takes no memory.
+    pub fn take_of(&mut self, sender: &Name) -> Option<Message>
+        ensures taken { MatchOption result (from sender.now self.old.items ≡ []) (λ message. from sender.now self.old.items ≡ message ∷ from sender.now self.new.items) }
+        ensures items { self.new.items ≡ without_first (is_from sender.now) self.old.items }
+        ensures room { self.old.room ≤ self.new.room }
+    {
+        match place_of(&self.messages, sender) {
+            Some(place) => self.messages.remove(place),
+            None => None,
+        }
+    }
+
+    /// Makes the messages that depend on that name definite, in their places. It takes no memory.
+    pub fn settle(&mut self, name: &Name)
+        ensures items { self.new.items ≡ settle (same_name name.now) self.old.items }
+        ensures room { self.new.room ≡ self.old.room }
+    {
+        settle_all(self.messages.make_contiguous(), name);
+    }
+
+    /// Makes the first message that depends on that name definite, in its place. It is false, with nothing changed,
+    /// exactly where there is none. It takes no memory.
+    pub fn settle_first(&mut self, name: &Name) -> bool
+        ensures found { result ≡ list_any (depends_on (same_name name.now)) self.old.items }
+        ensures items { self.new.items ≡ settle_first (same_name name.now) self.old.items }
+        ensures room { self.new.room ≡ self.old.room }
+    {
+        settle_one_of(self.messages.make_contiguous(), name)
+    }
+
+    /// Removes the messages that depend on that name. It takes no memory.
+    pub fn drop_of(&mut self, name: &Name)
+        ensures items { self.new.items ≡ without (same_name name.now) self.old.items }
+        ensures room { self.old.room ≤ self.new.room }
+    {
+        self.messages.retain(|message| !message.depends_on(name));
+    }
+}
+
+/// The place of the first message of that sender.
+fn place_of(messages: &VecDeque<Message>, sender: &Name) -> Option<usize>
+    ensures { result ≡ position (is_from sender.now) messages.now.items }
+{
+    messages.iter().position(|message| message.is_from(sender))
+}
+
+fn settle_all(messages: &mut [Message], name: &Name)
+    ensures { messages.new ≡ settle (same_name name.now) messages.old }
+{
+    for message in messages.iter_mut() {
+        message.settle(name);
+    }
+}
+
+/// The place of the first message that depends on that name.
+fn place_on(messages: &[Message], name: &Name) -> Option<usize>
+    ensures { result ≡ position (depends_on (same_name name.now)) messages.now }
+{
+    messages.iter().position(|message| message.depends_on(name))
+}
+
+fn settle_one_of(messages: &mut [Message], name: &Name) -> bool
+    ensures found { result ≡ list_any (depends_on (same_name name.now)) messages.old }
+    ensures items { messages.new ≡ settle_first (same_name name.now) messages.old }
+{
+    match place_on(messages, name) {
+        Some(place) => {
+            messages[place].depends = None;
+            true
+        }
+        None => false,
+    }
+}

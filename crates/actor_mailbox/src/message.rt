@@ -1,0 +1,43 @@
+ghost use Rattle.std.specs.Prelude.{◌≡◌};
+ghost use Rattle.value_core.specs.Named.{same_name};
+
+use value_core::{Name, Values};
+
+/// A message: the unit that sent it, its arguments, and the name of the transaction or turn that it depends on. It is
+/// definite where it depends on nothing.
+#[derive(Drop)]
+pub struct Message {
+    pub sender: Name,
+    pub args: Values,
+    pub depends: Option<Name>,
+}
+
+impl Message {
+    ghost use Rattle.actor_mailbox.specs.Messages.{depends_on, is_from, settle_one};
+
+    /// Whether that unit sent it.
+    pub(crate) fn is_from(&self, sender: &Name) -> bool
+        ensures { result ≡ is_from sender.now self.now }
+    {
+        *sender == self.sender
+    }
+
+    /// Whether it depends on that name.
+    pub(crate) fn depends_on(&self, name: &Name) -> bool
+        ensures { result ≡ depends_on (same_name name.now) self.now }
+    {
+        match &self.depends {
+            Some(on) => name == on,
+            None => false,
+        }
+    }
+
+    /// Makes it definite where it depends on that name.
+    pub(crate) fn settle(&mut self, name: &Name)
+        ensures { self.new ≡ settle_one (same_name name.now) self.old }
+    {
+        if self.depends_on(name) {
+            self.depends = None;
+        }
+    }
+}

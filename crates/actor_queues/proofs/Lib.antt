@@ -1,0 +1,3 @@
+pub mod FirstMessages
+pub mod Mails
+pub mod MessageQueues

@@ -1,0 +1,121 @@
+-- What is owed to the words where there was no memory to read them.
+use Rattle.std.proofs.Common.{◌≡◌, ◌≢◌, ◌≤◌, ℕ, List, [], ◌∷◌, refl, subst, inl, inr, arith, le_refl}
+use Rattle.std.specs.Prelude.{Option, None, Some, ◌⊎◌}
+use Rattle.serial_model.specs.Limits.{Budget}
+use Rattle.world_io.specs.Seen.{FilesSeen, SinkSeen}
+use Rattle.world_io.specs.Taken.{TookPrefix, Said}
+use Rattle.chocola.specs.declared.outcome.Outcome.{Outcome}
+use Rattle.chocola.specs.declared.outcome.Detail.TheVariants.{Nothing}
+use Rattle.chocola.specs.Answers.{Answers}
+use Rattle.chocola.specs.CheckAnswers.{CheckAnswers}
+use Rattle.chocola.specs.Lines.{memory_line}
+use Rattle.chocola.specs.NoAnswers.{NoCommand}
+use Rattle.chocola.specs.Outcome.{IsEnded, IsWithoutRun, IsIdle}
+use Rattle.chocola.specs.ReplayAnswers.{IsReplayed, ReplayAnswers}
+use Rattle.chocola.specs.RunAnswers.{RunAnswers}
+use Rattle.chocola.specs.Seen.{Seen, seen, IsUntouched}
+use Rattle.chocola.specs.SourceAnswers.{ReadsSource, Says}
+use Rattle.chocola.proofs.Answering.{six_not_ended}
+use Rattle.chocola.proofs.Tracing.{KeepsTrace-none}
+
+module _ (words : List (List ℕ)) (files : FilesSeen) (out err err2 : SinkSeen) (outcome : Outcome) (six : outcome.status ≡ 6) (nothing : outcome.detail ≡ Nothing)
+    (empty : outcome.history.items ≡ []) (none : outcome.end ≡ None) (said : Said err err2 memory_line) (at_most : TookPrefix err.taken err2.taken memory_line) (later : err.faults ≤ err2.faults) where
+  abbrev before : Seen
+  before = seen files out err
+
+  abbrev after : Seen
+  after = seen files out err2
+
+  not_ended : IsEnded outcome.status → ⊥
+  not_ended ended = six_not_ended (subst IsEnded six ended)
+
+  not_without : IsWithoutRun outcome.status → ⊥
+  not_without w = elim w [ inl e ↦ absurd (omega (arith, six, e)) | inr e ↦ absurd (omega (arith, six, e)) ]
+
+  not_replayed : IsReplayed outcome.status → ⊥
+  not_replayed r = elim r [ inl e ↦ not_ended e | inr e ↦ absurd (omega (arith, six, e)) ]
+
+  same : IsUntouched before after
+  same = record { held = refl; faults = refl }
+
+  idle : IsIdle before after outcome
+  idle = record { history = empty; end = none; printed = refl; files = same }
+
+  says : (names : List (List ℕ)) → Says names before after outcome
+  says names = record {
+    unread = [];
+    not_read = λ three. absurd (omega (arith, six, three));
+    said = rw six said;
+    said_at_most = rw six at_most;
+    end_said = λ ended apart. absurd (not_ended ended);
+  }
+
+  reads : (file : List ℕ) (names : List (List ℕ)) → ReadsSource file names before after outcome
+  reads file names = record {
+    missing = λ name among gone. inr six;
+    must_refuse = λ bytes kind at given there refused calm. inr six;
+    must_refuse_scope = λ bytes kind at given there refused calm. inr six;
+    failed_read = λ failed. inr six;
+    failed_write = λ failed. inr (inl six);
+  }
+
+  run : (file : List ℕ) (limits : Budget) (trace : Option (List ℕ)) → RunAnswers file limits trace before after outcome
+  run file limits trace = record {
+    statuses = inr (inr six);
+    run = λ ended. absurd (not_ended ended);
+    ended = λ ended. absurd (not_ended ended);
+    unless_memory = λ is. inl idle;
+    complete = λ bytes program given source calm. inr six;
+    keeps = KeepsTrace-none limits trace before after outcome none same;
+    reads = reads file (file ∷ []);
+    refused = λ four. absurd (omega (arith, six, four));
+    not_written = λ seven. absurd (omega (arith, six, seven));
+    idle = λ w. absurd (not_without w);
+    detail = λ apart. nothing;
+    says = says (file ∷ []);
+  }
+
+  replay : (file trace : List ℕ) → ReplayAnswers file trace before after outcome
+  replay file trace = record {
+    statuses = inr (inr six);
+    replayed = λ r. absurd (not_replayed r);
+    unless_memory = λ is. inl idle;
+    complete = λ bytes text program stated given source given_trace is_text calm replays. inr six;
+    must_differ = λ bytes text program stated given source given_trace is_text calm replays. inr six;
+    reads = reads file (file ∷ trace ∷ []);
+    must_refuse_trace = λ bytes text program kind line given source given_trace refusal calm. inr six;
+    refused = λ four. absurd (omega (arith, six, four));
+    not_written = λ seven. absurd (omega (arith, six, seven));
+    files = same;
+    idle = λ w. absurd (not_without w);
+    no_detail = λ s. nothing;
+    says = says (file ∷ trace ∷ []);
+    differs_said = λ eight. absurd (omega (arith, six, eight));
+  }
+
+  check : (file : List ℕ) → CheckAnswers file before after outcome
+  check file = record {
+    statuses = inr (inr six);
+    checked = λ ended. absurd (not_ended ended);
+    complete = λ bytes program given source calm. inr six;
+    reads = reads file (file ∷ []);
+    refused = λ four. absurd (omega (arith, six, four));
+    not_written = λ seven. absurd (omega (arith, six, seven));
+    no_entries = empty;
+    no_end = none;
+    files = same;
+    idle = λ apart. idle;
+    detail = λ apart. nothing;
+    says = says (file ∷ []);
+  }
+
+  pub without_memory : Answers words before after outcome
+  without_memory = record {
+    statuses = inl (inr (inr six));
+    run = λ file limits trace is. run file limits trace;
+    replay = λ file trace is. replay file trace;
+    check = λ file is. check file;
+    no_command = λ is. record { status = inr six; idle = idle; reads = refl; detail = nothing; says = says [] };
+    usage = λ two. absurd (omega (arith, six, two));
+    no_count_falls = record { reads = le_refl files.read_faults; writes = le_refl files.write_faults; out = le_refl out.faults; err = later };
+  }

@@ -1,0 +1,5 @@
+//! Tests of the messages that have arrived at an actor.
+#![tactic(auto)]
+
+#[cfg(test)]
+mod mailboxes;

@@ -1,0 +1,5 @@
+//! Tests of the programs that are made.
+#![tactic(auto)]
+
+#[cfg(test)]
+mod texts;

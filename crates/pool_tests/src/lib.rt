@@ -1,0 +1,5 @@
+//! Tests of the pool of records.
+#![tactic(auto)]
+
+#[cfg(test)]
+mod pools;

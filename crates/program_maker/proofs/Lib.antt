@@ -1,0 +1,3 @@
+pub mod ManyDraws
+pub mod MoreLines
+pub mod Pieces

@@ -1,0 +1,6 @@
+pub mod CommitLaws
+pub mod PlaceLaws
+pub mod PruneLaws
+pub mod StoreLaws
+pub mod VersionLaws
+pub mod WriteLaws

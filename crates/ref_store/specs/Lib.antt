@@ -1,0 +1,5 @@
+pub mod Places
+pub mod Pruned
+pub mod Store
+pub mod Version
+pub mod Writes

@@ -1,0 +1,125 @@
+ghost use Rattle.std.specs.Prelude.{◌≡◌, ◌+◌, ◌<◌, ◌≤◌, ◌&&◌, ◌++◌, ◌∷◌, [], drop, length, nat_le, nat_lt, take, All, OnOk, vec_capacity};
+ghost use Rattle.std.specs.List.{list_any};
+ghost use Rattle.std.specs.List.Sorted.{IsNonDecreasing};
+ghost use Rattle.std.specs.Option.{option_copied};
+ghost use Rattle.ref_store.specs.Pruned.{first_staying, has_between, staying, IsPruned};
+ghost use Rattle.ref_store.specs.Version.{newest, version_at, NumbersRise};
+
+use crate::Version;
+use std::alloc::{AllocError, Global};
+use std::marker::Model;
+
+/// The versions of a ref, the oldest first, with the room for more.
+#[derive(Drop)]
+pub(crate) struct Versions {
+    all: Vec<Version>,
+}
+
+impl Model for Versions {
+    ghost use Rattle.std.specs.Prelude.{◌-◌};
+    ghost use Rattle.std.specs.Vec.{vec_capacity, vec_len};
+    ghost use Rattle.value_core.specs.Roomy.{Roomy};
+    ghost use Rattle.ref_store.specs.declared.version.Version.{Version};
+    ghost use Rattle.ref_store.specs.Version.{versions_code, NumbersRise};
+
+    ghost Value = { Roomy Version };
+
+    ghost coded = { versions_code };
+
+    ghost view = { λ v. record { items = v.all.items; room = vec_capacity v.all - vec_len v.all } };
+
+    ghost invariant = { λ v. NumbersRise v.all.items };
+}
+
+impl Versions {
+    /// No versions. It takes no memory.
+    pub(crate) fn new(alloc: Global) -> Self
+        ensures { result.items ≡ [] }
+    {
+        Versions {
+            all: Vec::new(alloc),
+        }
+    }
+
+    /// The newest version at or below the number.
+    pub(crate) fn at(&self, number: u64) -> Option<&Version>
+        ensures version { option_copied result ≡ version_at number self.now.items }
+        ensures rises { NumbersRise self.now.items }
+    {
+        let count = self.all.partition_point(|version| version.number <= number);
+        if count == 0 {
+            return None;
+        }
+        Some(&self.all[count - 1])
+    }
+
+    /// The newest version.
+    pub(crate) fn newest(&self) -> Option<&Version>
+        ensures version { option_copied result ≡ newest self.now.items }
+        ensures rises { NumbersRise self.now.items }
+    {
+        self.all.last()
+    }
+
+    /// Makes room for one version more, or finds no memory. The versions stay, and the room does not shrink.
+    pub(crate) fn reserve_one(&mut self) -> Result<(), AllocError>
+        ensures items { self.new.items ≡ self.old.items }
+        ensures room { OnOk result (0 < self.new.room) }
+        ensures kept { self.old.room ≤ self.new.room }
+    {
+        self.all.reserve(1)
+    }
+
+    /// Adds a version that is newer than all. It takes no memory.
+    pub(crate) fn push(&mut self, version: Version)
+        requires room { 0 < self.old.room }
+        requires newer { All (λ old. old.number < version.number) self.old.items }
+        ensures { self.new.items ≡ self.old.items ++ version ∷ [] }
+    {
+        self.all.push_reserved(version);
+    }
+
+    /// Drops the versions that no live number reads, but for the newest. It takes no memory, and the room does not shrink.
+    pub(crate) fn prune(&mut self, live: &[u64])
+        requires { IsNonDecreasing live.now }
+        ensures pruned { IsPruned live.now self.old.items self.new.items }
+        ensures room { self.old.room ≤ self.new.room }
+    {
+        prune(&mut self.all, live);
+    }
+}
+
+fn prune(versions: &mut Vec<Version>, live: &[u64])
+    requires { IsNonDecreasing live.now }
+    ensures items { versions.new.items ≡ staying live.now versions.old.items }
+    ensures capacity { vec_capacity versions.new ≡ vec_capacity versions.old }
+{
+    // From the newest on, so that few versions move where one is dropped.
+    let mut index = versions.len();
+    while index > 0 {
+        index -= 1;
+        drop_unread(versions, index, live);
+    }
+}
+
+/// Drops the version at the index where no live number reads it, and it is not the last.
+fn drop_unread(versions: &mut Vec<Version>, index: usize, live: &[u64])
+    requires at { index < length versions.old.items }
+    requires rises { IsNonDecreasing live.now }
+    ensures items { versions.new.items ≡ take index versions.old.items ++ first_staying live.now (drop index versions.old.items) }
+    ensures capacity { vec_capacity versions.new ≡ vec_capacity versions.old }
+{
+    let next = index + 1;
+    if next < versions.len() && !any_between(live, versions[index].number, versions[next].number) {
+        versions.remove(index);
+    }
+}
+
+/// Whether one of the numbers is at or above the first bound and below the second.
+fn any_between(numbers: &[u64], from: u64, to: u64) -> bool
+    requires { IsNonDecreasing numbers.now }
+    ensures { result ≡ has_between from to numbers.now }
+{
+    let first = numbers.partition_point(|number| *number < from);
+    first < numbers.len() && numbers[first] < to
+}

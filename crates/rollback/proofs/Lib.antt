@@ -1,0 +1,4 @@
+pub mod Members
+pub mod Rooms
+pub mod Closing
+pub mod Gathered

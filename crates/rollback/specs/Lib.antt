@@ -1,0 +1,3 @@
+pub mod Dependants
+pub mod Gathering
+pub mod Undone

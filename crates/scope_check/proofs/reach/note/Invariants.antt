@@ -1,6 +1,0 @@
-use Rattle.std.proofs.Common.{take}
-use Rattle.scope_check.specs.Users.{Notes}
-use Rattle.scope_check.proofs.reach.note.Given as goal
-
-abbrev pub invariant-loop-number : goal.invariant-loop-number
-invariant-loop-number l = Notes l.initial.users (take l.number-index l.named) l.unit l.users

@@ -1,7 +1,0 @@
-use Rattle.std.proofs.Common.{◌∙◌, ap}
-use Rattle.serial_model.specs.Log.{is_held}
-use Rattle.serial_machine.proofs.EffectMarks.{has_held}
-use Rattle.serial_machine.proofs.log.TaskLog.holds.Goals as goal
-
-pub returns : goal.returns
-returns c = λ effect is. c.contains.ensures ∙ has_held c.self.inside.held c.self.inside.effects.items effect c.args.mark.now c.self.invariant.2 is ∙ ap (λ l. is_held l.effects effect) c.self.view_is

@@ -1,9 +1,0 @@
-use Rattle.std.proofs.Common.{◌≡◌, drop, fold}
-use Rattle.serial_model.specs.Log.{with_missing}
-use Rattle.serial_machine.proofs.log.TaskLog.take_effects.Given as goal
-
-abbrev pub invariant-loop-effect : goal.invariant-loop-effect
-invariant-loop-effect l = record {
-  left : fold with_missing l.self.effects (drop l.effect-index l.child.effects) ≡ fold with_missing l.fn.self.effects l.child.effects;
-  others : l.self ≡ record l.fn.self { effects = l.self.effects };
-}

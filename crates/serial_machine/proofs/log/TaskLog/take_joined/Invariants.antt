@@ -1,9 +1,0 @@
-use Rattle.std.proofs.Common.{◌≡◌, drop, fold}
-use Rattle.serial_model.specs.Named.{with_name}
-use Rattle.serial_machine.proofs.log.TaskLog.take_joined.Given as goal
-
-abbrev pub invariant-loop-name : goal.invariant-loop-name
-invariant-loop-name l = record {
-  left : fold with_name l.self.joined (drop l.name-index l.child.joined) ≡ fold with_name (with_name l.fn.self.joined l.child.name) l.child.joined;
-  others : l.self ≡ record l.fn.self { joined = l.self.joined };
-}

@@ -1,0 +1,4 @@
+pub mod KnownTasks
+pub mod Requests
+pub mod Trees
+pub mod Turns

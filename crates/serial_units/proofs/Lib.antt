@@ -1,0 +1,10 @@
+pub mod ChildJoins
+pub mod FirstUnits
+pub mod Forks
+pub mod KnownResults
+pub mod NewResults
+pub mod Replies
+pub mod TaskTurns
+pub mod Unfinished
+pub mod UnitRuns
+pub mod UnitViews

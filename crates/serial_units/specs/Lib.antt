@@ -1,0 +1,5 @@
+pub mod Asking
+pub mod Codes
+pub mod Task
+pub mod Tasks
+pub mod Units

@@ -1,0 +1,173 @@
+ghost use Rattle.std.specs.Prelude.{◌≡◌, ◌<◌, ◌≤◌, [], ◌∷◌, length, IfOk};
+
+use core_syntax::{Behaviour, BuildNo, Builder, Function, Node, NodeId, NodeIds, Program, Step};
+use std::alloc::{AllocError, Global};
+use std::test::Fail;
+use value_core::{Place, Seq};
+
+fn at(column: u32) -> Place
+    requires { 1 ≤ column }
+    ensures column { result.column ≡ column }
+    ensures line { result.line ≡ 1 }
+{
+    Place::new(1, column)
+}
+
+fn one(alloc: Global, id: NodeId) -> Result<NodeIds, AllocError>
+    ensures { IfOk result (λ ids. ids ≡ id ∷ []) }
+{
+    Seq::from_slice(alloc, [id].as_slice())
+}
+
+// (def n 7) (defn f [x] x) (def b (behavior [] [m] m)) (f n) (spawn b)
+fn sample(alloc: Global) -> Result<Program, BuildNo> {
+    let mut builder = Builder::new(alloc);
+    let seven = builder.push(Node::Int(7), at(8))?;
+    let local = builder.push(Node::Local(0), at(23))?;
+    let turn = builder.push(Node::Turn(1, local), at(33))?;
+    let called = Node::Call(0, Seq::new(alloc), one(alloc, seven)?);
+    let call = builder.push(called, at(54))?;
+    let spawned = Node::Spawn(0, Seq::new(alloc), Seq::new(alloc));
+    let spawn = builder.push(spawned, at(60))?;
+    let steps = [
+        Step {
+            node: seven,
+            binds: true,
+        },
+        Step {
+            node: call,
+            binds: false,
+        },
+        Step {
+            node: spawn,
+            binds: false,
+        },
+    ];
+    let functions = [
+        Function {
+            at: at(11),
+            takes: 1,
+            body: local,
+        },
+        Function {
+            at: at(12),
+            takes: 0,
+            body: seven,
+        },
+    ];
+    let behaviours = [Behaviour {
+        at: at(33),
+        hidden: 0,
+        state: 0,
+        message: 1,
+        body: turn,
+    }];
+    Ok(builder.finish(
+        Seq::from_slice(alloc, steps.as_slice())?,
+        Seq::from_slice(alloc, functions.as_slice())?,
+        1,
+        Seq::from_slice(alloc, behaviours.as_slice())?,
+    )?)
+}
+
+fn name_of(node: &Node) -> &'static str {
+    match node {
+        Node::Int(7) => "7",
+        Node::Local(0) => "local 0",
+        Node::Turn(1, _) => "turn",
+        Node::Call(0, _, _) => "call",
+        Node::Spawn(0, _, _) => "spawn",
+        Node::Main(_) => "main",
+        _ => "another",
+    }
+}
+
+// The number of the last of the nodes that stand in a list of the node, or that it names alone.
+fn last_child(node: &Node) -> Option<u32> {
+    match node {
+        Node::Turn(_, body) => Some(body.index),
+        Node::Call(_, _, ids) => ids.items().last().map(|id| id.index),
+        Node::Main(steps) => steps.items().last().map(|step| step.node.index),
+        _ => None,
+    }
+}
+
+fn moved<T: Send>(value: T) -> T {
+    value
+}
+
+// A node's name, the column of its place, and its last child.
+type NodeRow = (&'static str, u32, Option<u32>);
+
+fn is_node(program: &Program, index: u32, row: &NodeRow) -> bool
+    requires { index < length program.now.nodes }
+{
+    let id = NodeId { index };
+    let node = program.node(id);
+    name_of(node) == row.0 && program.place(id).column() == row.1 && last_child(node) == row.2
+}
+
+fn is_function(function: &Function, column: u32, takes: u32, body: u32) -> bool {
+    function.at.column() == column && function.takes == takes && function.body.index == body
+}
+
+fn is_behaviour(behaviour: &Behaviour, message: u32, body: u32) -> bool {
+    behaviour.hidden == 0
+        && behaviour.state == 0
+        && behaviour.message == message
+        && behaviour.body.index == body
+}
+
+// What is built is read back, by a program that was moved as into a thread.
+#[test]
+fn nodes_are_read_back(rt: HostRuntime) -> Result<(), Fail> {
+    let program = moved(sample(rt.alloc())?);
+    let rows: [NodeRow; 6] = [
+        ("7", 8, None),
+        ("local 0", 23, None),
+        ("turn", 33, Some(1)),
+        ("call", 54, Some(0)),
+        ("spawn", 60, None),
+        ("main", 1, Some(4)),
+    ];
+    assert_eq!(rt; program.main().index as usize + 1, rows.len());
+    for index in 0..=program.main().index {
+        match rows.get(index as usize) {
+            Some(row) => assert!(rt; is_node(&program, index, row), "{index}"),
+            None => assert!(rt; false, "no such row"),
+        }
+    }
+    Ok(())
+}
+
+#[test]
+fn functions_and_behaviours_are_read_back(rt: HostRuntime) -> Result<(), Fail> {
+    let program = sample(rt.alloc())?;
+    assert_eq!(rt;
+        (program.functions(), program.behaviours(), program.globals()),
+        (1, 1, 1)
+    );
+    for number in 0..program.functions() {
+        assert!(rt; is_function(program.function(number), 11, 1, 1));
+    }
+    for number in 0..program.behaviours() {
+        assert!(rt; is_behaviour(program.behaviour(number), 1, 2));
+    }
+    Ok(())
+}
+
+// The table takes 1,000,000 nodes and no more, and after a refusal it is as before.
+#[test]
+fn a_table_is_full(rt: HostRuntime) -> Result<(), Fail> {
+    let mut builder = Builder::new(rt.alloc());
+    for index in 0..1_000_000u32 {
+        assert_eq!(rt; builder.push(Node::SelfActor, at(1))?.index, index);
+    }
+    for _ in 0..2 {
+        match builder.push(Node::Nil, at(1)) {
+            Ok(_) => assert!(rt; false, "one node too many"),
+            Err(refusal) => assert_eq!(rt; refusal, BuildNo::TooManyNodes),
+        }
+    }
+    Ok(())
+}

@@ -1,0 +1,28 @@
+-- How a task's log is kept.
+use Rattle.std.specs.Prelude.{ℕ, List, map, refl}
+use Rattle.std.specs.Coded.{Coded, code_by, coded×, coded_list, coded_ℕ}
+use Rattle.std.specs.BTreeSet.{BTreeSet}
+use Rattle.value_core.specs.contracts.value.Value as value
+use Rattle.value_core.specs.declared.value.Value.{Value}
+use Rattle.serial_model.specs.contracts.effect.Effect as effect
+use Rattle.serial_model.specs.declared.effect.Effect.{Effect}
+use Rattle.serial_model.specs.Log.{Log}
+use Rattle.value_core.specs.Named.{Name, Named, made_by}
+use Rattle.value_core.specs.NameSet.{HasNames}
+
+-- it is stored as its parts
+abbrev pub log_code : Coded Log
+log_code =
+    code_by (Name × (Named Value × (List Name × (ℕ × (ℕ × List Effect)))))
+    (coded× (coded_list coded_ℕ) (coded× (coded_list (coded× (coded_list coded_ℕ) (value.the_row).coded)) (coded× (coded_list (coded_list coded_ℕ)) (coded× coded_ℕ (coded× coded_ℕ (coded_list (effect.the_row).coded))))))
+    (λ l. (l.name, (l.writes, (l.joined, (l.made, (l.own, l.effects))))))
+    (λ p. record { name = p.0; writes = p.1.0; joined = p.1.1.0; made = p.1.1.1.0; own = p.1.1.1.1.0; effects = p.1.1.1.1.1 })
+    (λ _. refl)
+
+-- the mark of an effect: the task that did it, and its number there
+abbrev pub mark_of : Effect → Name
+mark_of effect = made_by effect.task effect.number
+
+-- the set has the marks of these effects and no others
+abbrev pub HasEffects : BTreeSet Name → List Effect → Type 0
+HasEffects set effects = HasNames set (map mark_of effects)

@@ -1,0 +1,9 @@
+//! What a task of a transaction has done so far: its writes and effects, the tasks that it joined, and the merge of a child.
+#![tactic(auto)]
+
+pub mod acts;
+mod copies;
+mod log;
+
+pub use copies::copy_effect;
+pub use log::TaskLog;

@@ -1,0 +1,130 @@
+ghost use Rattle.std.specs.Prelude.{◌≡◌, ◌↔◌, ◌+◌, [], ◌∷◌, ◌++◌, IfOk, OnErr, OnOk, drop};
+ghost use Rattle.std.specs.List.{slice_get};
+ghost use Rattle.std.specs.Option.{option_copied};
+ghost use Rattle.tentative_turn.specs.Turn.{answered_ahead, things_made, IsBegun, IsDosync, IsLookUp, IsMustWait, IsTake, IsTakeOf, RunsAhead};
+ghost use Rattle.tentative_turn.specs.declared.held_effect.HeldEffect.TheVariants as held;
+
+use crate::ahead::Ahead;
+use crate::copies::{copy_answer, copy_effects};
+use crate::foretelling::{count_made, foretell};
+use crate::held_effect::{HeldEffect, hold_last};
+use serial_model::{Answer, Entry, Request};
+use std::alloc::{AllocError, Global};
+use std::collections::VecDeque;
+use std::marker::Model;
+use value_core::Name;
+
+/// A turn that runs ahead, and the effects that it holds, in the order in which it did them.
+#[derive(Drop)]
+pub struct Held {
+    turn: Name,
+    actor: Name,
+    made: u32,
+    effects: VecDeque<HeldEffect>,
+}
+
+impl Model for Held {
+    ghost use Rattle.tentative_turn.specs.Turn.{Turn, turn_code};
+
+    ghost Value = { Turn };
+
+    ghost coded = { turn_code };
+
+    ghost view = { λ h. record { name = h.turn; actor = h.actor; made = h.made; effects = h.effects.items } };
+}
+
+impl Held {
+    /// The turn of that name, which is begun by the entry `take` and has made `first_made` things: it holds that entry
+    /// alone.
+    pub fn new(alloc: Global, take: Entry, turn: Name, first_made: u32) -> Result<Self, AllocError>
+        requires { IsTake take }
+        ensures { IfOk result (λ held. IsBegun take turn first_made held) }
+    {
+        let actor = copy_actor(alloc, &take)?;
+        let mut effects = VecDeque::new(alloc);
+        hold_last(&mut effects, HeldEffect::Take(take))?;
+        Ok(Held {
+            turn,
+            actor,
+            made: first_made,
+            effects,
+        })
+    }
+
+    /// Answers the request ahead and holds its effect last, or hands it back where it must wait: a deref, a join and a
+    /// ref-set. For want of memory, as when the turn would have made more than 4,294,967,295 things, the turn stays as it
+    /// was and the request is dropped.
+    pub fn run_ahead(&mut self, alloc: Global, request: Request) -> Result<Ahead, AllocError>
+        requires { ¬ IsDosync request }
+        ensures ahead { IfOk result (RunsAhead self.old request (answered_ahead self.old request) self.new) }
+        ensures waits { IfOk result (λ ahead. IsMustWait ahead ↔ IsLookUp request) }
+        ensures same { OnErr result (self.new ≡ self.old) }
+    {
+        match foretell(alloc, &self.turn, &self.actor, self.made, &request)? {
+            Some(answer) => {
+                let given = hold(&mut self.made, &mut self.effects, alloc, request, answer)?;
+                Ok(Ahead::Answered(given))
+            }
+            None => Ok(Ahead::MustWait(request)),
+        }
+    }
+
+    /// The effect that settles next, where one is held.
+    pub fn next_held(&self) -> Option<&HeldEffect>
+        ensures { option_copied result ≡ slice_get self.now.effects 0 }
+    {
+        self.effects.front()
+    }
+
+    /// Gives the effect that settles next, where one is held, which is then held no more. It takes no memory.
+    pub fn flush(&mut self) -> Option<HeldEffect>
+        ensures first { result ≡ slice_get self.old.effects 0 }
+        ensures others { self.new ≡ record self.old { effects = drop 1 self.old.effects } }
+    {
+        self.effects.pop_front()
+    }
+
+    /// An equal value.
+    pub fn copy(&self, alloc: Global) -> Result<Self, AllocError>
+        ensures { IfOk result (λ copied. copied ≡ self.now) }
+    {
+        Ok(Held {
+            turn: self.turn.copy(alloc)?,
+            actor: self.actor.copy(alloc)?,
+            made: self.made,
+            effects: copy_effects(alloc, &self.effects)?,
+        })
+    }
+}
+
+/// The actor that begins a turn by that entry.
+fn copy_actor(alloc: Global, take: &Entry) -> Result<Name, AllocError>
+    requires { IsTake take.now }
+    ensures { IfOk result (λ actor. IsTakeOf take.now actor) }
+{
+    match take {
+        Entry::Take(actor, _) => actor.copy(alloc),
+        Entry::Run(_) => unreachable!(),
+    }
+}
+
+/// Holds the request, so answered, as the last effect, and counts what it makes. An equal answer is handed out.
+fn hold(
+    made: &mut u32,
+    effects: &mut VecDeque<HeldEffect>,
+    alloc: Global,
+    request: Request,
+    answer: Answer,
+) -> Result<Answer, AllocError>
+    ensures answer { IfOk result (λ given. given ≡ answer) }
+    ensures made { OnOk result (made.new ≡ made.old + things_made request) }
+    ensures held { OnOk result (effects.new.items ≡ effects.old.items ++ held.Asked request answer ∷ []) }
+    ensures same_made { OnErr result (made.new ≡ made.old) }
+    ensures same_held { OnErr result (effects.new.items ≡ effects.old.items) }
+{
+    let given = copy_answer(alloc, &answer)?;
+    let count = made.checked_add(count_made(&request)).ok_or(AllocError)?;
+    hold_last(effects, HeldEffect::Asked(request, answer))?;
+    *made = count;
+    Ok(given)
+}

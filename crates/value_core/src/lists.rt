@@ -1,0 +1,24 @@
+ghost use Rattle.std.specs.Prelude.{◌≡◌, [], ◌∷◌, ◌++◌, IfOk, OnErr, OnOk};
+
+use crate::{Seq, Value, Values};
+use std::alloc::{AllocError, Global};
+
+/// Appends the item. For want of memory the list stays, and the item is dropped.
+pub fn add<T: Drop>(list: &mut Seq<T>, item: T) -> Result<(), AllocError>
+    ensures ok { OnOk result (list.new ≡ list.old ++ item ∷ []) }
+    ensures err { OnErr result (list.new ≡ list.old) }
+{
+    list.push(item).map_err(|_| AllocError)
+}
+
+/// The list of equal values.
+pub fn copy_list(alloc: Global, values: &[Value]) -> Result<Values, AllocError>
+    ensures { IfOk result (λ copied. copied ≡ values.now) }
+{
+    let mut copied = Seq::new(alloc);
+    copied.reserve(values.len())?;
+    for value in values {
+        add(&mut copied, value.copy(alloc)?)?;
+    }
+    Ok(copied)
+}

@@ -1,0 +1,5 @@
+pub mod Kept
+pub mod Opens
+pub mod lists
+pub mod records
+pub mod rows

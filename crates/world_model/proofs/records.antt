@@ -1,0 +1,10 @@
+pub mod Effects
+pub mod Elsewhere
+pub mod Frames
+pub mod MoreSends
+pub mod Names
+pub mod Ranks
+pub mod Sends
+pub mod SettledUnits
+pub mod Spawned
+pub mod Steps

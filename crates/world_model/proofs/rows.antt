@@ -1,0 +1,14 @@
+pub mod Aborts
+pub mod Attempts
+pub mod BeginsAhead
+pub mod Commits
+pub mod Ends
+pub mod HoldsMore
+pub mod MovesOn
+pub mod Reset
+pub mod SendsNow
+pub mod SettlesHeld
+pub mod SettlesOthers
+pub mod SettlesTake
+pub mod TakesNow
+pub mod Undone

@@ -1,0 +1,9 @@
+pub mod Ahead
+pub mod Dependence
+pub mod Gave
+pub mod IsWorld
+pub mod Laws
+pub mod Message
+pub mod StandsFor
+pub mod World
+pub mod rows
