@@ -104,6 +104,7 @@ module _ (setup : Setup) (formed : IsWellFormed setup.program) (w : World) (is_w
     where
       nothing : (f : Name) (v : Value) → Contains {X = Name × Value} [] (f, v) → ⊥
       nothing f v known = not-suc-le-zero known.1
+
       new : IsSnapshot setup w.history s at
       new = record {
         within = omega arith;
@@ -112,6 +113,7 @@ module _ (setup : Setup) (formed : IsWellFormed setup.program) (w : World) (is_w
         refs = λ r. ap (λ f. f r) store ∙ is.stands.refs r;
         over = λ f v known. absurd (nothing f v (subst (λ (all : List (Name × Value)). Contains all (f, v)) joined known));
       }
+
       on : (c : Bool) → cond c (Some at) (w.attempts v) ≡ Some found → IsSnapshot setup w.history s found
       on true e = let same : at ≡ found = cc in subst (IsSnapshot setup w.history s) same new
       on false e = is.snapshots v found e
@@ -159,11 +161,14 @@ module _ (setup : Setup) (formed : IsWellFormed setup.program) (w : World) (is_w
     where
       old : IsSnapshot setup w.history s at
       old = is.snapshots u at r.attempt
+
       over : (f : Name) (v : Value) → Contains at.joined (f, v) ⊎ ((y : LiveUnit) × (w.units f ≡ Some y) × (y.takes ≡ None) × (y.from.finished ≡ Some v)) → value_of s f ≡ Some v
       over f v (inl before) = old.over f v before
       over f v (inr y) = ap (option_and_then (λ (unit : UnitState). unit.finished)) (settled-unit setup w s f y.0 is.stands y.1 y.2).there ∙ y.3
+
       new : IsSnapshot setup w.history s (learned at reads joined ended)
       new = record { within = old.within; state = old.state; replays = old.replays; refs = old.refs; over = λ f v has. over f v (r.over f v has) }
+
       on : (c : Bool) → cond c (Some (learned at reads joined ended)) (w.attempts v) ≡ Some found → IsSnapshot setup w.history s found
       on true e = let same : learned at reads joined ended ≡ found = cc in subst (IsSnapshot setup w.history s) same new
       on false e = is.snapshots v found e

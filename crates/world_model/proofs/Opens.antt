@@ -31,9 +31,11 @@ opens setup = record {
   where
     main : UnitState
     main = new_unit None setup.program.main []
+
     unit : (q : Name) (c : Bool) → same_name q main_name ≡ c → UnitStands setup (λ a. None) (λ a. []) q (cond c (Some (still (new_unit None setup.program.main []))) None) (named q (opening setup).units)
     unit q true e = rw e (refl, refl)
     unit q false e = rw e tt
+
     none : (a u : Name) (c : Bool) → sends (record (opening_world setup) { units = λ v. cond c (Some (still (new_unit None setup.program.main []))) None }) u a ≡ []
     none a u true = refl
     none a u false = refl

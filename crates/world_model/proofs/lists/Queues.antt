@@ -50,6 +50,7 @@ queue-kept u ms ps queue all at = ap₂ (λ n xs. drop n xs) (ap length puts) at
   where
     is_put : AreTentative at.put
     is_put = each-left (λ m. is_tentative m ≡ true) at.put at.kept (subst AreTentative at.whole all)
+
     puts : unsettled u ms ≡ at.put
     puts = ap (λ xs. filter is_tentative xs) at.stands ∙ filter-append is_tentative (map (settled u) queue) at.put ∙ ap₂ (λ a b. a ++ b) (tentative-settled u queue) (filter-all is_tentative at.put is_put)
 
@@ -65,8 +66,10 @@ queue-takes u m ms ps queue is definite all at = on queue at.stands
   where
     first : from u (m ∷ ms) ≡ m ∷ from u ms
     first = ap (λ b. cond b (m ∷ from u ms) (from u ms)) is
+
     is_put : AreTentative at.put
     is_put = each-left (λ m. is_tentative m ≡ true) at.put at.kept (subst AreTentative at.whole all)
+
     on : (q : List (List Value)) → from u (m ∷ ms) ≡ map (settled u) q ++ at.put → IsTaken u m ms ps q
     on [] e = let same : at.put ≡ m ∷ from u ms = sym e ∙ first in
         let tentative : is_tentative m ≡ true = (subst AreTentative same is_put).0 in
@@ -102,6 +105,7 @@ queue-commits u on test ms ps queue args is sent at = record {
   where
     all_from : AreFrom u (map (tentative u on) args)
     all_from = each-map (λ m. is_from u m ≡ true) (tentative u on) args (λ a. same_name-itself u)
+
     kept_from : AreFrom u at.kept
     kept_from = each-right (λ m. is_from u m ≡ true) at.put at.kept (subst (AreFrom u) (sym sent ∙ at.whole) all_from)
 
@@ -164,6 +168,7 @@ queue-settles-first u test ms ps queue args is own at =
   where
     Moved : List Message → Type 0
     Moved after = from u (settle_first test (settled u args) ms) ≡ map (settled u) queue ++ after
+
     on : (put : List Message) → tentative u u args ∷ ps ≡ put ++ at.kept
         → from u (settle_first test (settled u args) ms) ≡ map (settled u) queue ++ settle_first test (settled u args) put
         → QueueStands u (settle_first test (settled u args) ms) ps (queue ++ args ∷ [])

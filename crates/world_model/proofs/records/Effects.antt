@@ -50,10 +50,12 @@ one u (what.Send to args) s unit = record {
   where
     queue : List (List Value)
     queue = queue_of s.queues to u ++ args ∷ []
+
     own : (b : Name) (c : Bool) → same_name b to ≡ c → queue_of (with_queue s.queues to u (queue_of s.queues to u ++ args ∷ [])) b u ≡ queue_of s.queues b u ++ cond c (args ∷ []) []
     own b true e = subst (λ n. queue_of (with_queue s.queues to u (queue_of s.queues to u ++ args ∷ [])) n u ≡ queue_of s.queues n u ++ args ∷ []) (sym (same_name-equal b to e))
         (queue-here s.queues to u (queue_of s.queues to u ++ args ∷ []))
     own b false e = queue-actor s.queues to b u u (queue_of s.queues to u ++ args ∷ []) e ∙ sym (append-nil (queue_of s.queues b u))
+
     others : (b v : Name) → same_name v u ≡ false → (c : Bool) → same_name b to ≡ c → queue_of (with_queue s.queues to u (queue_of s.queues to u ++ args ∷ [])) b v ≡ queue_of s.queues b v
     others b v e true same = subst (λ n. queue_of (with_queue s.queues to u (queue_of s.queues to u ++ args ∷ [])) n v ≡ queue_of s.queues n v) (sym (same_name-equal b to same))
         (queue-sender s.queues to u v (queue_of s.queues to u ++ args ∷ []) e)

@@ -18,14 +18,28 @@ use Rattle.world_model.proofs.records.Frames.{at-here, at-other, no-unit, no-att
 module _ (setup : Setup) (w : World) (s : State) (st : StandsFor setup w s) where
   pub with-bytes : (text : List ℕ) → StandsFor setup (record w { bytes = w.bytes ++ text }) (record s { bytes = s.bytes ++ text })
   with-bytes text = record {
-    refs = st.refs; units = st.units; actors = st.actors; turns = st.turns; queues = st.queues; attempts = st.attempts;
-    bytes = ap (λ b. b ++ text) st.bytes; made = st.made; end = st.end;
+    refs = st.refs;
+    units = st.units;
+    actors = st.actors;
+    turns = st.turns;
+    queues = st.queues;
+    attempts = st.attempts;
+    bytes = ap (λ b. b ++ text) st.bytes;
+    made = st.made;
+    end = st.end;
   }
 
   pub with-ref : (r : Name) (v : Value) → StandsFor setup (record w { refs = with_at w.refs r (Some v) }) (record s { refs = with_named s.refs r v })
   with-ref r v = record {
     refs = λ q. ap (cond (same_name q r) (Some v)) (st.refs q) ∙ sym (named-with_named q r v s.refs);
-    units = st.units; actors = st.actors; turns = st.turns; queues = st.queues; attempts = st.attempts; bytes = st.bytes; made = st.made; end = st.end;
+    units = st.units;
+    actors = st.actors;
+    turns = st.turns;
+    queues = st.queues;
+    attempts = st.attempts;
+    bytes = st.bytes;
+    made = st.made;
+    end = st.end;
   }
 
   -- a new actor
@@ -35,7 +49,11 @@ module _ (setup : Setup) (w : World) (s : State) (st : StandsFor setup w s) wher
     units = λ q. unit-moves setup w.actors (with_at w.actors c (Some o)) w.taken w.taken q (w.units q) (named q s.units) (λ b p n there called took. record { moved = n; there = old b p there; took = took; args = refl }) (st.units q);
     actors = λ b. ap (cond (same_name b c) (Some o)) (st.actors b) ∙ sym (named-with_named b c o s.actors);
     turns = λ a. turns a (w.taken a) (st.turns a);
-    queues = st.queues; attempts = st.attempts; bytes = st.bytes; made = st.made; end = st.end;
+    queues = st.queues;
+    attempts = st.attempts;
+    bytes = st.bytes;
+    made = st.made;
+    end = st.end;
   }
     where
       old : (b : Name) (p : ActorState) → w.actors b ≡ Some p → with_at w.actors c (Some o) b ≡ Some p
@@ -44,6 +62,7 @@ module _ (setup : Setup) (w : World) (s : State) (st : StandsFor setup w s) wher
           on : (d : Bool) → same_name b c ≡ d → cond d (Some o) (w.actors b) ≡ Some p
           on true e = let no : Some p ≡ None = sym there ∙ ap w.actors (same_name-equal b c e) ∙ st.actors c ∙ none in cc
           on false e = there
+
       turns : (a : Name) (ms : List Message) → TakenStands w.actors w.units a ms → TakenStands (with_at w.actors c (Some o)) w.units a ms
       turns a [] t = tt
       turns a (m ∷ ms) t = record { actor = t.actor; turn = t.turn; there = old a t.actor t.there; begun = t.begun; takes = t.takes }
@@ -66,9 +85,11 @@ module _ (setup : Setup) (w : World) (s : State) (st : StandsFor setup w s) wher
       unit : (q : Name) (d : Bool) → same_name q c ≡ d → UnitStands setup w.actors w.taken q (cond d (Some (new_live body values)) (w.units q)) (cond d (Some (new_unit None body values)) (named q s.units))
       unit q true e = (refl, refl)
       unit q false e = st.units q
+
       same : (b v : Name) (d : Bool) → same_name v c ≡ d → held_sends v b (w.units v) ≡ held_sends v b (cond d (Some (new_live body values)) (w.units v))
       same b v true e = ap (held_sends v b) (ap w.units (same_name-equal v c e) ∙ none)
       same b v false e = refl
+
       attempt : (v : Name) (d : Bool) → same_name v c ≡ d → AttemptStands setup v (cond d (Some (new_live body values)) (w.units v)) (w.attempts v)
       attempt v true e = rw (no-attempt setup v (w.units v) (w.attempts v) (st.attempts v) (ap w.units (same_name-equal v c e) ∙ none)) tt
       attempt v false e = st.attempts v

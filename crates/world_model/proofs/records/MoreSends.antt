@@ -28,13 +28,16 @@ module _ (setup : Setup) (w : World) (s : State) (u : Name) (st : StandsFor setu
     where
       Stands : Name → Name → List Message → Type 0
       Stands b v l = QueueStands v l (after v b) (queue_of s.queues b v)
+
       mine : QueueStands u (line w to ++ m ∷ []) (after u to) (queue_of s.queues to u)
       mine = subst (λ p. QueueStands u (line w to ++ m ∷ []) p (queue_of s.queues to u)) (ap (λ l. sends w u to ++ l) (sym new) ∙ own to)
           (queue-puts u (line w to) (sends w u to) m (queue_of s.queues to u) (ap (same_name u) sender ∙ same_name-itself u) (st.queues to u)
-            (sym (queue-kept u (line w to) (sends w u to) (queue_of s.queues to u) (sends-tentative w u to) (st.queues to u)) ∙ none))
+          (sym (queue-kept u (line w to) (sends w u to) (queue_of s.queues to u) (sends-tentative w u to) (st.queues to u)) ∙ none))
+
       at_receiver : (c : Bool) → same_name v u ≡ c → QueueStands v (line w to ++ m ∷ []) (after v to) (queue_of s.queues to v)
       at_receiver true e = subst (λ n. QueueStands n (line w to ++ m ∷ []) (after n to) (queue_of s.queues to n)) (sym (same_name-equal v u e)) mine
       at_receiver false e = queue-others v (line w to) (m ∷ []) (after v to) (queue_of s.queues to v) (ap (same_name v) sender ∙ e, tt) (kept-line to v)
+
       queue : (p : Bool) → same_name b to ≡ p → QueueStands v (w.taken b ++ cond p (w.mails to ++ m ∷ []) (w.mails b)) (after v b) (queue_of s.queues b v)
       queue true e = subst (λ n. QueueStands v (w.taken n ++ (w.mails to ++ m ∷ [])) (after v n) (queue_of s.queues n v)) (sym (same_name-equal b to e))
           (subst (λ l. QueueStands v l (after v to) (queue_of s.queues to v)) (append_assoc (w.taken to) (w.mails to) (m ∷ [])) (at_receiver (same_name v u) refl))

@@ -51,6 +51,7 @@ ahead-grows u unit r after gives = on (answer_ahead unit.actor (made_by u unit.m
     grown (request.Send actor message) = omega arith
     grown (request.Become behaviour state) = omega arith
     grown request.SelfActor = omega arith
+
     on : (found : Option Answer) → after_answer (unit_after unit r) found ≡ Some after → unit.made ≤ after.made
     on None e = cc
     on (Some (answer.Fault failed)) e = cc
@@ -102,6 +103,7 @@ module _ (setup : Setup) (w : World) (s : State) (st : StandsFor setup w s) wher
       where
         of : (x : LiveUnit) × (w.units v ≡ Some x) × (at.root ≡ v ++ x.now.made ∷ [])
         of = root v at is
+
         none : (y : LiveUnit) → w.units at.root ≡ Some y → ⊥
         none y there = both (whose v of.0 of.1) (whose at.root y there)
           where
@@ -110,9 +112,10 @@ module _ (setup : Setup) (w : World) (s : State) (st : StandsFor setup w s) wher
                 let fewer = made.fresh v unit.made at.root child.made of.0.now.made [] (OfUnit unit found refl) (OfUnit child there2 refl) of.2 in not-less unit.made (omega arith)
             both (Begun a actor message found called took takes) (Settled child there2 less2) =
                 not-less actor.turns (made.fresh a actor.turns at.root child.made actor.turns (of.0.now.made ∷ []) (OfActor actor found refl) (OfUnit child there2 refl)
-                  (of.2 ∙ ap (λ n. n ++ of.0.now.made ∷ []) called ∙ append_assoc a (actor.turns ∷ []) (of.0.now.made ∷ [])))
+                (of.2 ∙ ap (λ n. n ++ of.0.now.made ∷ []) called ∙ append_assoc a (actor.turns ∷ []) (of.0.now.made ∷ [])))
             both other (Begun a actor message found called took takes) =
                 not-actor v of.0 actor of.1 (ap (λ n. named n s.actors) (maker v a of.0.now.made actor.turns (sym of.2 ∙ called)) ∙ found)
+
         on : (found : Option LiveUnit) → w.units at.root ≡ found → found ≡ None
         on None there = refl
         on (Some y) there = absurd (none y there)
@@ -123,9 +126,11 @@ module _ (setup : Setup) (w : World) (s : State) (st : StandsFor setup w s) wher
       where
         is : named a s.actors ≡ Some actor
         is = sym (st.actors a) ∙ there
+
         none : (y : LiveUnit) → Whose w s (made_by a actor.turns) y → ⊥
         none y (Settled child found less) = not-less actor.turns (made.fresh a actor.turns (made_by a actor.turns) child.made actor.turns [] (OfActor actor is refl) (OfUnit child found refl) refl)
         none y (Begun b other message found called took takes) = let no : message ∷ [] ≡ [] = sym took ∙ ap w.taken (maker b a other.turns actor.turns (sym called)) ∙ free in cc
+
         on : (found : Option LiveUnit) → w.units (made_by a actor.turns) ≡ found → found ≡ None
         on None there = refl
         on (Some y) there = absurd (none y (whose (made_by a actor.turns) y there))
@@ -145,6 +150,7 @@ module _ (setup : Setup) (w : World) (s : State) (st : StandsFor setup w s) wher
           none : (y : LiveUnit) → Whose w s (made_by u unit.made) y → ⊥
           none y (Settled child is less) = not-less unit.made (made.fresh u unit.made (made_by u unit.made) child.made unit.made [] (OfUnit unit found refl) (OfUnit child is refl) refl)
           none y (Begun a actor message is called took takes) = made.apart u unit actor found (ap (λ n. named n s.actors) (maker u a unit.made actor.turns called) ∙ is)
+
           on : (y : Option LiveUnit) → w.units (made_by u unit.made) ≡ y → y ≡ None
           on None is = refl
           on (Some y) is = absurd (none y (whose (made_by u unit.made) y is))

@@ -105,6 +105,7 @@ ranks-commit setup w s u test actors st stay r = ranks-less w.actors actors w.ta
         let both : Some is.0 ≡ Some actor = sym (stay a is.0 is.1) ∙ there in
         let same : is.0 ≡ actor = cc in
         record { message = one.0; there = is.1 ∙ ap (λ o. Some o) same; took = one.1; depends = still_depends test one.0 on (ap (λ (k : Message). k.depends) one.2 ∙ depends) }
+
     tries : (v : Name) (at : Attempt) (c : Bool) → cond c None (w.attempts v) ≡ Some at → (old : Attempt) × (w.attempts v ≡ Some old) × (old.root ≡ at.root)
     tries v at true e = cc
     tries v at false e = (at, e, refl)
@@ -122,6 +123,7 @@ ranks-send w u to l single r = ranks-less w.actors w.actors w.taken (with_at w.t
     here [] is actor m on there took depends = cc
     here (n ∷ []) is actor m on there took depends = record { message = n; there = there; took = is; depends = first-one (same_name u) l n (passes (same_name u) n.depends) refl m on took depends }
     here (n ∷ k ∷ ns) is actor m on there took depends = absurd (single to n k ns is)
+
     at : (a : Name) (actor : ActorState) (m : Message) (on : Name) → w.actors a ≡ Some actor → m.depends ≡ Some on → (c : Bool) → same_name a to ≡ c → cond c (settled_taken u l (w.taken to)) (w.taken a) ≡ m ∷ [] → WasTurn w.actors w.taken a actor on
     at a actor m on there depends true e took = subst (λ n. WasTurn w.actors w.taken n actor on) (sym (same_name-equal a to e)) (here (w.taken to) refl actor m on (ap w.actors (sym (same_name-equal a to e)) ∙ there) took depends)
     at a actor m on there depends false e took = record { message = m; there = there; took = took; depends = depends }
@@ -134,13 +136,16 @@ ranks-undone w gone single r = ranks-less w.actors w.actors w.taken (λ a. witho
     one : (a : Name) (actor : ActorState) (m n : Message) (on : Name) → w.actors a ≡ Some actor → m.depends ≡ Some on → w.taken a ≡ n ∷ [] → (p : Bool) → cond p (n ∷ []) [] ≡ m ∷ [] → WasTurn w.actors w.taken a actor on
     one a actor m n on there depends is true took = let same : n ≡ m = cc in record { message = n; there = there; took = is; depends = ap (λ (k : Message). k.depends) same ∙ depends }
     one a actor m n on there depends is false took = cc
+
     here : (a : Name) (actor : ActorState) (m : Message) (on : Name) → w.actors a ≡ Some actor → m.depends ≡ Some on → (ms : List Message) → w.taken a ≡ ms → without gone ms ≡ m ∷ [] → WasTurn w.actors w.taken a actor on
     here a actor m on there depends [] is took = cc
     here a actor m on there depends (n ∷ []) is took = one a actor m n on there depends is (stays gone n) took
     here a actor m on there depends (n ∷ k ∷ ns) is took = absurd (single a n k ns is)
+
     left : (at other : Attempt) (c : Bool) → cond c None (Some other) ≡ Some at → Some other ≡ Some at
     left at other true e = cc
     left at other false e = e
+
     tries : (v : Name) (at : Attempt) (found : Option Attempt) → w.attempts v ≡ found → unless_gone gone found ≡ Some at → (old : Attempt) × (w.attempts v ≡ Some old) × (old.root ≡ at.root)
     tries v at None is e = cc
     tries v at (Some other) is e = (at, is ∙ left at other (gone other.root) e, refl)
@@ -159,7 +164,7 @@ pub ranks-local : (w : World) (u : Name) (at : Attempt) (effects : List Effect) 
 ranks-local w u at [] there r = r
 ranks-local w u at (e ∷ es) there r = ranks-local (does_local w u at e) u (with_done at e) es (at-here w.attempts u (Some (with_done at e)))
     (ranks-less w.actors w.actors w.taken w.taken w.attempts (with_at w.attempts u (Some (with_done at e))) r (λ a actor m on here took depends. record { message = m; there = here; took = took; depends = depends })
-      (λ v found is. tries v found (same_name v u) refl is))
+    (λ v found is. tries v found (same_name v u) refl is))
   where
     tries : (v : Name) (found : Attempt) (c : Bool) → same_name v u ≡ c → cond c (Some (with_done at e)) (w.attempts v) ≡ Some found → (old : Attempt) × (w.attempts v ≡ Some old) × (old.root ≡ found.root)
     tries v found true same is = let one : with_done at e ≡ found = cc in (at, ap w.attempts (same_name-equal v u same) ∙ there, ap (λ (a : Attempt). a.root) one)
@@ -179,8 +184,8 @@ module _ (setup : Setup) (w : World) (s : State) (st : StandsFor setup w s) (mad
   fresh : (b : Name) → Each (λ m. (on : Name) → m.depends ≡ Some on → same_name on t ≡ false) (line w b)
   fresh b = line-each setup w s st made b (λ v m. (on : Name) → m.depends ≡ Some on → same_name on t ≡ false) (λ v args on e. cc)
       (λ v. sends-each w v b (λ m. (on : Name) → m.depends ≡ Some on → same_name on t ≡ false)
-        (λ x args there on e. let is : v ≡ on = cc in subst (λ n. same_name n t ≡ false) is (is_apart w.units t v x none there))
-        (λ at args there on e. let is : at.root ≡ on = cc in subst (λ n. same_name n t ≡ false) is (roots v at there)))
+      (λ x args there on e. let is : v ≡ on = cc in subst (λ n. same_name n t ≡ false) is (is_apart w.units t v x none there))
+      (λ at args there on e. let is : at.root ≡ on = cc in subst (λ n. same_name n t ≡ false) is (roots v at there)))
 
   of_taken : (b : Name) (n : Message) (on : Name) → w.taken b ≡ n ∷ [] → n.depends ≡ Some on → same_name on t ≡ false
   of_taken b n on took depends = (subst (λ ms. Each (λ m. (on : Name) → m.depends ≡ Some on → same_name on t ≡ false) (ms ++ w.mails b)) took (fresh b)).0 on depends
@@ -219,9 +224,11 @@ module _ (setup : Setup) (w : World) (s : State) (st : StandsFor setup w s) (mad
       above : Option Name → ℕ
       above None = 0
       above (Some on) = suc (r.rank on)
+
       of_front : (on : Name) → m.depends ≡ Some on → same_name on t ≡ false
       of_front on depends = (each-right (λ m. (on : Name) → m.depends ≡ Some on → same_name on t ≡ false) (w.taken a) (m ∷ ms)
           (subst (λ l. Each (λ m. (on : Name) → m.depends ≡ Some on → same_name on t ≡ false) (w.taken a ++ l)) front (fresh a))).0 on depends
+
       at : (b : Name) (o : ActorState) (n : Message) (on : Name) → w.actors b ≡ Some o → n.depends ≡ Some on → (c : Bool) → same_name b a ≡ c → cond c (m ∷ []) (w.taken b) ≡ n ∷ []
           → with_at r.rank t (above m.depends) on < with_at r.rank t (above m.depends) (made_by b o.turns)
       at b o n on here depends true e took =
@@ -259,6 +266,7 @@ took-one setup w s st a n k ns took = on t.turn.takes t.takes (named (made_by a 
   where
     t : HasBegun w.actors w.units a
     t = subst (TakenStands w.actors w.units a) took (st.turns a)
+
     on : (takes : Option Name) → takes ≡ Some a → (found : Option UnitState) → LiveStands setup w.actors w.taken (made_by a t.actor.turns) t.turn takes found → ⊥
     on None e found stands = cc
     on (Some b) e (Some unit) stands = stands

@@ -21,6 +21,7 @@ sends-each w u a P own of = each-append P (held_sends u a (w.units u)) (attempt_
     on : (live : Option LiveUnit) → w.units u ≡ live → Each P (held_sends u a live)
     on None is = tt
     on (Some x) is = each-map P (tentative u u) (sends_to a x.held) (λ args. own x args is)
+
     by : (found : Option Attempt) → w.attempts u ≡ found → Each P (attempt_sends u a found)
     by None is = tt
     by (Some at) is = each-map P (tentative u at.root) (effects_to a at.effects) (λ args. of at args is)
@@ -35,6 +36,7 @@ each-sender P (m ∷ ms) all = (first, each-sender P ms (λ v. rest v (is_from v
   where
     first : P m.sender m
     first = (subst (Each (P m.sender)) (ap (λ b. cond b (m ∷ from m.sender ms) (from m.sender ms)) (same_name-itself m.sender)) (all m.sender)).0
+
     rest : (v : Name) (b : Bool) → Each (P v) (cond b (m ∷ from v ms) (from v ms)) → Each (P v) (from v ms)
     rest v true each = each.1
     rest v false each = each
@@ -49,7 +51,7 @@ module _ (setup : Setup) (w : World) (s : State) (st : StandsFor setup w s) (mad
   line-each a P all some = each-sender P (line w a) (λ v.
       let at = st.queues a v in
       subst (Each (P v)) (sym at.stands) (each-append (P v) (map (settled v) (queue_of s.queues a v)) at.put (each-settled (P v) v (queue_of s.queues a v) (all v))
-          (each-left (P v) at.put at.kept (subst (Each (P v)) at.whole (some v)))))
+      (each-left (P v) at.put at.kept (subst (Each (P v)) at.whole (some v)))))
 
   -- a unit's name is that of no attempt: who depends on it is its own message
   pub own-sends : (a u : Name) (x : LiveUnit) → w.units u ≡ Some x → Each (λ m. same_name u m.sender ≡ false → passes (same_name u) m.depends ≡ false) (line w a)
@@ -61,6 +63,7 @@ module _ (setup : Setup) (w : World) (s : State) (st : StandsFor setup w s) (mad
         where
           none : w.units at.root ≡ None
           none = no-unit-of-root setup w s st made v at is
+
           on : (b : Bool) → same_name u at.root ≡ b → b ≡ false
           on false e = refl
           on true e = let same : u ≡ at.root = same_name-equal u at.root e in let no : Some x ≡ None = sym there ∙ ap w.units same ∙ none in cc

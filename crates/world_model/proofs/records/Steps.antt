@@ -71,6 +71,7 @@ queue-set queues actor sender messages P here others elsewhere b v = on (same_na
     at_actor : (c : Bool) → same_name v sender ≡ c → P actor v (queue_of (with_queue queues actor sender messages) actor v)
     at_actor true e = subst (λ n. P actor n (queue_of (with_queue queues actor sender messages) actor n)) (sym (same_name-equal v sender e)) (subst (P actor sender) (sym (queue-here queues actor sender messages)) here)
     at_actor false e = subst (P actor v) (sym (queue-sender queues actor sender v messages e)) (others v e)
+
     on : (c : Bool) → same_name b actor ≡ c → P b v (queue_of (with_queue queues actor sender messages) b v)
     on true e = subst (λ n. P n v (queue_of (with_queue queues actor sender messages) n v)) (sym (same_name-equal b actor e)) (at_actor (same_name v sender) refl)
     on false e = subst (P b v) (sym (queue-actor queues actor b sender v messages e)) (elsewhere b v e)

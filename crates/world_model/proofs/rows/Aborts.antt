@@ -51,6 +51,7 @@ module _ (setup : Setup) (w : World) (s : State) (u : Name) (root : Attempt) (go
       to : (a : Name) (actor : ActorState) (m : Message) → w.actors a ≡ Some actor → w.taken a ≡ m ∷ [] → (depends : Option Name) → m.depends ≡ depends → passes gone depends ≡ true → gone (made_by a actor.turns) ≡ true
       to a actor m there took None e is = cc
       to a actor m there took (Some on) e is = row.all (made_by a actor.turns) (turn a actor m on there took e refl (row.only on is))
+
       back : (a : Name) (actor : ActorState) (m : Message) → w.actors a ≡ Some actor → w.taken a ≡ m ∷ [] → gone (made_by a actor.turns) ≡ true → passes gone m.depends ≡ true
       back a actor m there took is =
           let t = turn_of a actor m there took in
@@ -59,6 +60,7 @@ module _ (setup : Setup) (w : World) (s : State) (u : Name) (root : Attempt) (go
           let both : m ∷ [] ≡ o.2 ∷ [] = sym took ∙ ap w.taken same ∙ o.4 in
           let one : m ≡ o.2 = cc in
           ap (λ (n : Message). passes gone n.depends) one ∙ o.6
+
       settled : (v : Name) (x : LiveUnit) → w.units v ≡ Some x → x.takes ≡ None
           → (a : Name) × (actor : ActorState) × (m : Message) × (w.actors a ≡ Some actor) × (w.taken a ≡ m ∷ []) × (v ≡ made_by a actor.turns) × (passes gone m.depends ≡ true) → ⊥
       settled v x there takes o =

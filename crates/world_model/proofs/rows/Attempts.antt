@@ -35,8 +35,10 @@ begins setup w s u x at st row = record {
     same : (b v : Name) (c : Bool) → same_name v u ≡ c → attempt_sends v b (w.attempts v) ≡ attempt_sends v b (cond c (Some at) (w.attempts v))
     same b v true e = ap (attempt_sends v b) (ap w.attempts (same_name-equal v u e) ∙ row.none) ∙ sym (ap (λ es. map (tentative v at.root) (effects_to b es)) row.effects)
     same b v false e = refl
+
     is : IsAttempt setup u x at
     is = record { asks = row.asks; root = row.root; unfinished = row.unfinished; end = subst (IsEnd setup x.now.actor at) (sym row.ended) tt }
+
     attempt : (v : Name) (c : Bool) → same_name v u ≡ c → AttemptStands setup v (w.units v) (cond c (Some at) (w.attempts v))
     attempt v true e = subst (λ n. AttemptStands setup n (w.units n) (Some at)) (sym (same_name-equal v u e)) (subst (λ live. AttemptStands setup u live (Some at)) (sym row.there) is)
     attempt v false e = st.attempts v
@@ -62,6 +64,7 @@ module _ (setup : Setup) (w : World) (s : State) (u : Name) (at : Attempt) (e : 
       more : (live : Option LiveUnit) → AttemptStands setup u live (Some at) → AttemptStands setup u live (Some (with_done at e))
       more None stands = absurd stands
       more (Some x) stands = record { asks = stands.asks; root = stands.root; unfinished = stands.unfinished; end = tt }
+
       attempt : (v : Name) (c : Bool) → same_name v u ≡ c → AttemptStands setup v (w.units v) (cond c (Some (with_done at e)) (w.attempts v))
       attempt v true is = subst (λ n. AttemptStands setup n (w.units n) (Some (with_done at e))) (sym (same_name-equal v u is)) (more (w.units u) (subst (AttemptStands setup u (w.units u)) there (st.attempts u)))
       attempt v false is = st.attempts v
@@ -70,10 +73,10 @@ module _ (setup : Setup) (w : World) (s : State) (u : Name) (at : Attempt) (e : 
   own mails b =
       append_assoc (held_sends u b (w.units u)) (attempt_sends u b (w.attempts u)) (map (tentative u at.root) (what_sends b e.what))
       ∙ ap (λ l. held_sends u b (w.units u) ++ l)
-          (ap (λ found. attempt_sends u b found ++ map (tentative u at.root) (what_sends b e.what)) there
-          ∙ sym (map-append (tentative u at.root) (effects_to b at.effects) (what_sends b e.what))
-          ∙ ap (map (tentative u at.root)) (ap (λ l. effects_to b at.effects ++ l) (sym (append-nil (what_sends b e.what))) ∙ sym (flat_map-append (λ (e : Effect). what_sends b e.what) at.effects (e ∷ [])))
-          ∙ ap (attempt_sends u b) (sym (at-here w.attempts u (Some (with_done at e)))))
+      (ap (λ found. attempt_sends u b found ++ map (tentative u at.root) (what_sends b e.what)) there
+      ∙ sym (map-append (tentative u at.root) (effects_to b at.effects) (what_sends b e.what))
+      ∙ ap (map (tentative u at.root)) (ap (λ l. effects_to b at.effects ++ l) (sym (append-nil (what_sends b e.what))) ∙ sym (flat_map-append (λ (e : Effect). what_sends b e.what) at.effects (e ∷ [])))
+      ∙ ap (attempt_sends u b) (sym (at-here w.attempts u (Some (with_done at e)))))
 
   other : (mails : Name → List Message) (b v : Name) → same_name v u ≡ false → sends w v b ≡ sends (done_more w u at e mails) v b
   other mails b v not = sym (ap (λ c. held_sends v b (w.units v) ++ attempt_sends v b (cond c (Some (with_done at e)) (w.attempts v))) not)
@@ -87,6 +90,7 @@ module _ (setup : Setup) (w : World) (s : State) (u : Name) (at : Attempt) (e : 
       nil : (ms : List Message) → is_empty ms ≡ true → ms ≡ []
       nil [] is = refl
       nil (m ∷ ms) is = cc
+
       send : (to : Name) (args : List Value) → e.what ≡ what.Send to args → (p q : Bool) → is_empty (kept_sends w u to) ≡ q
           → StandsFor setup (done_more w u at e (cond p (cond q (put_last w to (tentative u at.root args)) w.mails) w.mails)) s
       send to args is false q none = keeps
@@ -94,7 +98,8 @@ module _ (setup : Setup) (w : World) (s : State) (u : Name) (at : Attempt) (e : 
       send to args is true true none =
           let mails = put_last w to (tentative u at.root args) in
           does-with mails (put-line setup w s u st (λ v b. sends (done_more w u at e mails) v b) (λ b. map (tentative u at.root) (what_sends b e.what)) (own mails) (other mails)
-            to (tentative u at.root args) refl (ap (λ w. map (tentative u at.root) (what_sends to w)) is ∙ ap (λ c. map (tentative u at.root) (cond c (args ∷ []) [])) (same_name-itself to)) (nil (kept_sends w u to) none))
+          to (tentative u at.root args) refl (ap (λ w. map (tentative u at.root) (what_sends to w)) is ∙ ap (λ c. map (tentative u at.root) (cond c (args ∷ []) [])) (same_name-itself to)) (nil (kept_sends w u to) none))
+
       on : (did : What) → e.what ≡ did → StandsFor setup (done_more w u at e (mails_done w u at did)) s
       on (what.Send to args) is = send to args is (is_some (w.actors to)) (is_empty (kept_sends w u to)) refl
       on (what.Bytes text) is = keeps
@@ -123,13 +128,17 @@ learns setup w s u x at reads joined ended st row = record {
   where
     new : Attempt
     new = learned at reads joined ended
+
     same : (b v : Name) (c : Bool) → same_name v u ≡ c → attempt_sends v b (w.attempts v) ≡ attempt_sends v b (cond c (Some (learned at reads joined ended)) (w.attempts v))
     same b v true e = ap (attempt_sends v b) (ap w.attempts (same_name-equal v u e) ∙ row.attempt)
     same b v false e = refl
+
     old : IsAttempt setup u x at
     old = subst₂ (λ live found. AttemptStands setup u live found) row.there row.attempt (st.attempts u)
+
     is : IsAttempt setup u x (learned at reads joined ended)
     is = record { asks = old.asks; root = old.root; unfinished = old.unfinished; end = row.end }
+
     attempt : (v : Name) (c : Bool) → same_name v u ≡ c → AttemptStands setup v (w.units v) (cond c (Some (learned at reads joined ended)) (w.attempts v))
     attempt v true e = subst (λ n. AttemptStands setup n (w.units n) (Some (learned at reads joined ended))) (sym (same_name-equal v u e)) (subst (λ live. AttemptStands setup u live (Some (learned at reads joined ended))) (sym row.there) is)
     attempt v false e = st.attempts v

@@ -20,7 +20,6 @@ module _ (setup : Setup) (w : World) (s : State) (a u : Name) (m : Message) (ms 
   fresh : w.units u ≡ None
   fresh = ap w.units row.called ∙ new-turn setup w s st made a actor row.there row.free
 
-
   pub begins-ahead : StandsFor setup (begun_ahead w a u m ms (live_turn a actor behaviour m)) s
   begins-ahead = record {
     refs = st.refs;

@@ -159,7 +159,7 @@ module _ (setup : Setup) (w : World) (s : State) (u : Name) (x : LiveUnit) (at :
     own : (b : Name) → QueueStands u (line w2 b) (sends w2 u b) (queue_of after.queues b u)
     own b = subst₂ (λ l p. QueueStands u l p (queue_of after.queues b u)) (ap (λ k. settle (same_name at.root) (line w b) ++ settle (same_name at.root) k) (sym (is_kept b)) ∙ whole_line b) (sym none)
         (subst (QueueStands u (settle (same_name at.root) (line w b) ++ settle (same_name at.root) (st.queues b u).kept) []) (sym (took.own b))
-          (queue-commits u at.root (same_name at.root) (line w b) (sends w u b) (queue_of s.queues b u) (effects_to b at.effects) (same_name-itself at.root) (sent b) (st.queues b u)))
+        (queue-commits u at.root (same_name at.root) (line w b) (sends w u b) (queue_of s.queues b u) (effects_to b at.effects) (same_name-itself at.root) (sent b) (st.queues b u)))
       where
         none : sends w2 u b ≡ []
         none = ap₂ (λ live found. held_sends u b live ++ attempt_sends u b found) (at-here w.units u (Some (committed_unit x at.effects v))) (at-here w.attempts u None)
@@ -170,6 +170,7 @@ module _ (setup : Setup) (w : World) (s : State) (u : Name) (x : LiveUnit) (at :
       where
         none : w.units at.root ≡ None
         none = no-unit-of-root setup w s st sound.made u at row.attempt
+
         on : (c : Bool) → same_name at.root q ≡ c → c ≡ false
         on false e = refl
         on true e = let no : Some y ≡ None = sym there ∙ ap w.units (sym (same_name-equal at.root q e)) ∙ none in cc
@@ -180,6 +181,7 @@ module _ (setup : Setup) (w : World) (s : State) (u : Name) (x : LiveUnit) (at :
         root : (live : Option LiveUnit) → AttemptStands setup q live (Some other) → (k : ℕ) × (other.root ≡ q ++ k ∷ [])
         root None stands = absurd stands
         root (Some y) stands = (y.now.made, stands.root)
+
         on : (c : Bool) → same_name at.root other.root ≡ c → c ≡ false
         on false e = refl
         on true e =
@@ -190,15 +192,17 @@ module _ (setup : Setup) (w : World) (s : State) (u : Name) (x : LiveUnit) (at :
     others : (b q : Name) → same_name q u ≡ false → QueueStands q (line w2 b) (sends w2 q b) (queue_of after.queues b q)
     others b q e = subst₂ (λ l p. QueueStands q l p (queue_of after.queues b q)) (whole_line b) same_sends
         (subst (QueueStands q (settle (same_name at.root) (line w b) ++ settle (same_name at.root) (kept_sends w u b)) (sends w q b)) (sym (took.others b q e))
-          (queue-others q (settle (same_name at.root) (line w b)) (settle (same_name at.root) (kept_sends w u b)) (sends w q b) (queue_of s.queues b q) not_from
-            (queue-settles-other q (same_name at.root) (line w b) (sends w q b) (queue_of s.queues b q)
-              (sends-each w q b (λ m. passes (same_name at.root) m.depends ≡ false) (λ y args there. not_root q y there) (λ other args there. not_other q other e there)) (st.queues b q))))
+        (queue-others q (settle (same_name at.root) (line w b)) (settle (same_name at.root) (kept_sends w u b)) (sends w q b) (queue_of s.queues b q) not_from
+        (queue-settles-other q (same_name at.root) (line w b) (sends w q b) (queue_of s.queues b q)
+        (sends-each w q b (λ m. passes (same_name at.root) m.depends ≡ false) (λ y args there. not_root q y there) (λ other args there. not_other q other e there)) (st.queues b q))))
       where
         same_sends : sends w q b ≡ sends w2 q b
         same_sends = sym (ap₂ (λ live found. held_sends q b live ++ attempt_sends q b found) (at-other w.units u q (Some (committed_unit x at.effects v)) e) (at-other w.attempts u q None e))
+
         all : AreNotFrom q (kept_sends w u b)
         all = subst (AreNotFrom q) (sym (is_kept b)) (each-right (λ m. is_from q m ≡ false) (st.queues b u).put (st.queues b u).kept
             (subst (AreNotFrom q) (sym (sent b) ∙ (st.queues b u).whole) (each-map (λ m. is_from q m ≡ false) (tentative u at.root) (effects_to b at.effects) (λ args. e))))
+
         not_from : AreNotFrom q (settle (same_name at.root) (kept_sends w u b))
         not_from = each-of-map (λ m. is_from q m ≡ false) (settle_one (same_name at.root)) (kept_sends w u b)
             (each-to (λ m. is_from q m ≡ false) (λ m. is_from q (settle_one (same_name at.root) m) ≡ false) (kept_sends w u b) (λ m is. one-from q (same_name at.root) m ∙ is) all)

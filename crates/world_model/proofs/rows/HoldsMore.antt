@@ -59,9 +59,11 @@ module _ (setup : Setup) (w : World) (s : State) (u : Name) (x : LiveUnit) (r : 
     where
       here : LiveStands setup w.actors w.taken u x x.takes (named u s.units)
       here = subst (λ live. UnitStands setup w.actors w.taken u live (named u s.units)) row.there (st.units u)
+
       unit : (q : Name) (c : Bool) → same_name q u ≡ c → UnitStands setup w.actors w.taken q (cond c (Some (with_held x r after)) (w.units q)) (named q s.units)
       unit q true e = subst (λ n. UnitStands setup w.actors w.taken n (Some (with_held x r after)) (named n s.units)) (sym (same_name-equal q u e)) (grows x.takes (named u s.units) here)
       unit q false e = st.units q
+
       attempt : (v : Name) (c : Bool) → same_name v u ≡ c → AttemptStands setup v (cond c (Some (with_held x r after)) (w.units v)) (w.attempts v)
       attempt v true e = rw (ap w.attempts (same_name-equal v u e) ∙ quiet) tt
       attempt v false e = st.attempts v
@@ -90,8 +92,8 @@ puts setup w s u x to args at after st row none =
     let mails = put_last w to (tentative u u args) in
     let r = request.Send to args in
     holds-with setup w s u x r at after st row mails
-      (put-line setup w s u st (λ v b. sends (held_more w u x r after mails) v b) (λ b. map (tentative u u) (request_sends b r)) (own-sends setup w s u x r at after st row mails) (other-sends setup w s u x r at after st row mails)
-        to (tentative u u args) refl (ap (λ c. map (tentative u u) (cond c (args ∷ []) [])) (same_name-itself to)) none)
+    (put-line setup w s u st (λ v b. sends (held_more w u x r after mails) v b) (λ b. map (tentative u u) (request_sends b r)) (own-sends setup w s u x r at after st row mails) (other-sends setup w s u x r at after st row mails)
+    to (tentative u u args) refl (ap (λ c. map (tentative u u) (cond c (args ∷ []) [])) (same_name-itself to)) none)
 
 none-kept : (ms : List Message) → is_empty ms ≡ true → ms ≡ []
 none-kept [] is = refl

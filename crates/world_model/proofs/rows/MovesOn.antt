@@ -60,9 +60,11 @@ moves-on setup w s u x after history st there takes held none = record {
     unit : (q : Name) (c : Bool) → same_name q u ≡ c → UnitStands setup w.actors w.taken q (cond c (Some (still after)) (w.units q)) (cond c (Some after) (named q s.units))
     unit q true e = (refl, refl)
     unit q false e = st.units q
+
     same : (b v : Name) (c : Bool) → same_name v u ≡ c → held_sends v b (w.units v) ≡ held_sends v b (cond c (Some (still after)) (w.units v))
     same b v true e = ap (held_sends v b) (ap w.units (same_name-equal v u e) ∙ there) ∙ ap (λ rs. held_sends v b (Some (record { from = x.from; now = x.now; takes = x.takes; held = rs }))) held
     same b v false e = refl
+
     attempt : (v : Name) (c : Bool) → same_name v u ≡ c → AttemptStands setup v (cond c (Some (still after)) (w.units v)) (w.attempts v)
     attempt v true e = rw (ap w.attempts (same_name-equal v u e) ∙ none) tt
     attempt v false e = st.attempts v
@@ -221,12 +223,14 @@ module _ (setup : Setup) (w : World) (s : State) (u a : Name) (x : LiveUnit) (ac
     where
       none : w.taken a ≡ []
       none = busy-free setup w s a actor st there busy
+
       moves : (b : Name) (o : ActorState) (n : Message) → w.actors b ≡ Some o → w.taken b ≡ n ∷ [] → IsMoved (with_at w.actors a (Some (after_turn x.now.becomes actor))) w.taken b o n
       moves b o n is took = on (same_name b a) refl
         where
           on : (c : Bool) → same_name b a ≡ c → IsMoved (with_at w.actors a (Some (after_turn x.now.becomes actor))) w.taken b o n
           on true e = let no : n ∷ [] ≡ [] = sym took ∙ ap w.taken (same_name-equal b a e) ∙ none in cc
           on false e = record { moved = n; there = at-other w.actors a b (Some (after_turn x.now.becomes actor)) e ∙ is; took = took; args = refl }
+
       turns : (b : Name) (ms : List Message) → w.taken b ≡ ms → TakenStands w.actors w.units b ms → TakenStands (with_at w.actors a (Some (after_turn x.now.becomes actor))) w.units b ms
       turns b [] is t = tt
       turns b (m ∷ ms) is t = on (same_name b a) refl

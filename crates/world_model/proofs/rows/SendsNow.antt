@@ -28,7 +28,7 @@ with-message setup w s u to args st none = record {
   turns = st.turns;
   queues = queue-set s.queues to u (queue_of s.queues to u ++ args ∷ []) (λ b v queue. QueueStands v (w.taken b ++ put_last w to (settled u args) b) (sends w v b) queue)
       (at_receiver u (queue_of s.queues to u ++ args ∷ []) (subst (λ p. QueueStands u (line w to ++ settled u args ∷ []) p (queue_of s.queues to u ++ args ∷ [])) (sym none)
-        (queue-sends u (line w to) (queue_of s.queues to u) args (subst (λ p. QueueStands u (line w to) p (queue_of s.queues to u)) none (st.queues to u)))))
+      (queue-sends u (line w to) (queue_of s.queues to u) args (subst (λ p. QueueStands u (line w to) p (queue_of s.queues to u)) none (st.queues to u)))))
       (λ v apart. at_receiver v (queue_of s.queues to v) (queue-others v (line w to) (settled u args ∷ []) (sends w v to) (queue_of s.queues to v) (apart, tt) (st.queues to v)))
       (λ b v apart. subst (λ l. QueueStands v l (sends w v b) (queue_of s.queues b v)) (sym (ap (λ c. w.taken b ++ cond c (w.mails to ++ settled u args ∷ []) (w.mails b)) apart)) (st.queues b v));
   attempts = st.attempts;

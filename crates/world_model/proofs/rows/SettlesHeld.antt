@@ -72,6 +72,7 @@ module _ (setup : Setup) (w : World) (s : State) (u : Name) (x : LiveUnit) (r : 
       unit : (q : Name) (c : Bool) → same_name q u ≡ c → UnitStands setup w.actors taken q (cond c (Some (held_rest x rest after)) (w.units q)) (cond c (Some after) (named q s.units))
       unit q true e = rw row.takes ((refl, subst (λ n. RunsAhead setup n after rest x.now) (sym (same_name-equal q u e)) is.runs))
       unit q false e = unit-moves setup w.actors w.actors w.taken taken q (w.units q) (named q s.units) (λ b o n there called took. moves b o n there took) (st.units q)
+
       attempt : (v : Name) (c : Bool) → same_name v u ≡ c → AttemptStands setup v (cond c (Some (held_rest x rest after)) (w.units v)) (w.attempts v)
       attempt v true e = attempt-same setup v x (held_rest x rest after) (w.attempts v) refl (subst (λ live. AttemptStands setup v live (w.attempts v)) (ap w.units (same_name-equal v u e) ∙ row.there) (st.attempts v))
       attempt v false e = st.attempts v
@@ -93,7 +94,6 @@ module _ (setup : Setup) (w : World) (s : State) (u : Name) (x : LiveUnit) (r : 
       no b true = ap (map (tentative u u)) (none b)
       no b false = refl
 
-
 -- a held print
 pub settles-print : (setup : Setup) (w : World) (s : State) (u : Name) (x : LiveUnit) (text : List ℕ) (rest : List Request) (after : UnitState) → StandsFor setup w s → SettlesHeld w u x (request.Print text) rest after
     → Settles setup s (Run u) (print_settled w u x rest after text)
@@ -114,7 +114,7 @@ line-first u l (m ∷ ms) mails = on (passes (same_name u) m.depends) refl (line
   where
     on : (p : Bool) → passes (same_name u) m.depends ≡ p → settled_taken u l ms ++ settled_mail u l ms mails ≡ settle_first (same_name u) l (ms ++ mails)
         → cond (p || has_put u ms) (cond p (definite m ∷ ms) (m ∷ settle_first (same_name u) l ms)) (m ∷ ms) ++ cond (p || has_put u ms) mails (settle_first (same_name u) l mails)
-            ≡ cond p (definite m ∷ (ms ++ mails)) (m ∷ settle_first (same_name u) l (ms ++ mails))
+        ≡ cond p (definite m ∷ (ms ++ mails)) (m ∷ settle_first (same_name u) l (ms ++ mails))
     on true e rest = refl
     on false e rest = within (has_put u ms) refl rest
       where
@@ -150,9 +150,9 @@ module _ (setup : Setup) (w : World) (s : State) (u : Name) (x : LiveUnit) (to :
   own : QueueStands u (line w2 to) (sends w2 u to) (queue_of s.queues to u ++ args ∷ [])
   own = subst (λ l. QueueStands u l (sends w2 u to) (queue_of s.queues to u ++ args ∷ [])) (sym here)
       (queue-settles-first u (same_name u) (line w to) (sends w2 u to) (queue_of s.queues to u) args (same_name-itself u)
-        (each-to (λ m. same_name u m.sender ≡ false → passes (same_name u) m.depends ≡ false) (λ m. passes (same_name u) m.depends ≡ true → is_from u m ≡ true) (line w to)
-          (λ m h. turned (same_name u m.sender) (passes (same_name u) m.depends) h) owners)
-        (subst (λ p. QueueStands u (line w to) p (queue_of s.queues to u)) first (st.queues to u)))
+      (each-to (λ m. same_name u m.sender ≡ false → passes (same_name u) m.depends ≡ false) (λ m. passes (same_name u) m.depends ≡ true → is_from u m ≡ true) (line w to)
+      (λ m h. turned (same_name u m.sender) (passes (same_name u) m.depends) h) owners)
+      (subst (λ p. QueueStands u (line w to) p (queue_of s.queues to u)) first (st.queues to u)))
     where
       first : sends w u to ≡ tentative u u args ∷ sends w2 u to
       first = sends-after setup w s u x (request.Send to args) rest after st row is to u true (same_name-itself u)
@@ -161,9 +161,9 @@ module _ (setup : Setup) (w : World) (s : State) (u : Name) (x : LiveUnit) (to :
   others : (v : Name) → same_name v u ≡ false → QueueStands v (line w2 to) (sends w2 v to) (queue_of s.queues to v)
   others v e = subst₂ (λ l p. QueueStands v l p (queue_of s.queues to v)) (sym here) (sym (ap (λ c. held_sends v to (cond c (Some (held_rest x rest after)) (w.units v)) ++ attempt_sends v to (w.attempts v)) e))
       (queue-settles-first-other u v (same_name u) (line w to) (sends w v to) (queue_of s.queues to v) args e
-        (each-to (λ m. same_name u m.sender ≡ false → passes (same_name u) m.depends ≡ false) (λ m. passes (same_name u) m.depends ≡ true → is_from v m ≡ false) (line w to)
-          (λ m h p. ap (same_name v) (sym (same_name-equal u m.sender (turned (same_name u m.sender) (passes (same_name u) m.depends) h p))) ∙ e) owners)
-        (st.queues to v))
+      (each-to (λ m. same_name u m.sender ≡ false → passes (same_name u) m.depends ≡ false) (λ m. passes (same_name u) m.depends ≡ true → is_from v m ≡ false) (line w to)
+      (λ m h p. ap (same_name v) (sym (same_name-equal u m.sender (turned (same_name u m.sender) (passes (same_name u) m.depends) h p))) ∙ e) owners)
+      (st.queues to v))
 
   away : (b v : Name) → same_name b to ≡ false → QueueStands v (line w2 b) (sends w2 v b) (queue_of s.queues b v)
   away b v e = subst₂ (λ l p. QueueStands v l p (queue_of s.queues b v)) (elsewhere b e)
@@ -180,6 +180,7 @@ module _ (setup : Setup) (w : World) (s : State) (u : Name) (x : LiveUnit) (to :
       one : (p : Bool) → passes (same_name u) n.depends ≡ p → IsMoved w.actors (λ q. settled_taken u (settled u args) (n ∷ [])) b o n
       one true e = record { moved = definite n; there = there; took = ap (λ p. cond (p || false) (cond p (definite n ∷ []) (n ∷ settled u args ∷ [])) (n ∷ [])) e; args = refl }
       one false e = record { moved = n; there = there; took = ap (λ p. cond (p || false) (cond p (definite n ∷ []) (n ∷ settled u args ∷ [])) (n ∷ [])) e; args = refl }
+
       on : (c : Bool) → same_name b to ≡ c → IsMoved w.actors w2.taken b o n
       on true e =
           let to_one = one (passes (same_name u) n.depends) refl in

@@ -115,7 +115,7 @@ module _ (setup : Setup) (w : World) (s : State) (a : Name) (x : LiveUnit) (m : 
   queues = queue-set s.queues a m.sender takes.rest (λ b v queue. QueueStands v (line w2 b) (sends w2 v b) queue)
       (subst₂ (λ l p. QueueStands m.sender l p takes.rest) line_here (sends_same a m.sender) takes.stands)
       (λ v apart. subst₂ (λ l p. QueueStands v l p (queue_of s.queues a v)) line_here (sends_same a v)
-        (queue-takes-other v m (w.mails a) (sends w v a) (queue_of s.queues a v) apart (subst (λ l. QueueStands v l (sends w v a) (queue_of s.queues a v)) whole_line (st.queues a v))))
+      (queue-takes-other v m (w.mails a) (sends w v a) (queue_of s.queues a v) apart (subst (λ l. QueueStands v l (sends w v a) (queue_of s.queues a v)) whole_line (st.queues a v))))
       (λ b v apart. subst₂ (λ l p. QueueStands v l p (queue_of s.queues b v)) (line_other b apart) (sends_same b v) (st.queues b v))
 
   attempt : (v : Name) (c : Bool) → same_name v u ≡ c → AttemptStands setup v (cond c (Some (begun_turn x)) (w.units v)) (w.attempts v)
@@ -129,11 +129,11 @@ module _ (setup : Setup) (w : World) (s : State) (a : Name) (x : LiveUnit) (m : 
   turns b true e = tt
   turns b false e = taken-again w.actors w2.actors w.units b u (begun_turn x) (w.taken b) (w.taken b)
       (λ y there takes.
-        let both : Some y ≡ Some x = sym there ∙ row.there in
-        let same : y ≡ x = cc in
-        let names : Some b ≡ Some a = sym takes ∙ ap (λ (z : LiveUnit). z.takes) same ∙ row.takes in
-        let is : b ≡ a = cc in
-        let no : same_name b a ≡ true = ap (λ n. same_name n a) is ∙ same_name-itself a in absurd (differ (sym no ∙ e)))
+      let both : Some y ≡ Some x = sym there ∙ row.there in
+      let same : y ≡ x = cc in
+      let names : Some b ≡ Some a = sym takes ∙ ap (λ (z : LiveUnit). z.takes) same ∙ row.takes in
+      let is : b ≡ a = cc in
+      let no : same_name b a ≡ true = ap (λ n. same_name n a) is ∙ same_name-itself a in absurd (differ (sym no ∙ e)))
       (λ o there. at-other w.actors a b (Some (busy_with actor)) e ∙ there) (λ e. e) (st.turns b)
     where
       differ : true ≡ false → ⊥

@@ -100,6 +100,7 @@ module _ (setup : Setup) (w : World) (s : State) (gone : Name → Bool) (st : St
               at : (found : Option UnitState) → LiveStands setup w.actors w.taken (made_by a t.actor.turns) t.turn (Some a) found → ms ≡ []
               at None b = let both : m ∷ ms ≡ b.message ∷ [] = sym is ∙ b.took in cc
               at (Some other) stands = absurd stands
+
       on : (p : Bool) → passes gone m.depends ≡ p → TakenStands w2.actors w2.units a (cond (cond p false true) (m ∷ without gone ms) (without gone ms))
       on true e = rw only tt
       on false e = record {
