@@ -1,5 +1,9 @@
-//! Tests of the pool of records.
+//! Tests of the pool of records, of the set of slots and of the slots that wait.
 #![tactic(auto)]
 
 #[cfg(test)]
 mod pools;
+#[cfg(test)]
+mod slot_sets;
+#[cfg(test)]
+mod waits;

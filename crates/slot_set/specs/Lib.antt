@@ -1,0 +1,2 @@
+pub mod SlotSet
+pub mod Words
