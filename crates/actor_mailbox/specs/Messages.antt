@@ -42,6 +42,10 @@ abbrev pub settle_first : (Name → Bool) → List Message → List Message
 settle_first test [] = []
 settle_first test (m ∷ ms) = if depends_on test m then definite m ∷ ms else m ∷ settle_first test ms
 
+-- whether the message depends on no name that passes
+abbrev pub stays : (Name → Bool) → Message → Bool
+stays test m = not (depends_on test m)
+
 -- the messages that depend on no name that passes
 abbrev pub without : (Name → Bool) → List Message → List Message
-without test ms = filter (λ m. not (depends_on test m)) ms
+without test ms = filter (stays test) ms

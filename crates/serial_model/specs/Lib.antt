@@ -8,6 +8,7 @@ pub mod Limits
 pub mod Log
 pub mod Operation
 pub mod Replay
+pub mod Sends
 pub mod Standing
 pub mod State
 pub mod Step

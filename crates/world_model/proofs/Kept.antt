@@ -9,22 +9,20 @@ use Rattle.core_syntax.specs.WellFormed.{IsWellFormed}
 use Rattle.serial_model.proofs.runs.FinishedValues.{value-stays}
 use Rattle.serial_model.proofs.runs.LastTurns.{IsSounder, replay-sounder}
 use Rattle.serial_model.proofs.runs.Replays.{replay_from-step}
-use Rattle.serial_model.proofs.runs.Stuck.{IsSound, replay-sound}
-use Rattle.serial_model.proofs.tasks.TaskKeeps.{transactions-keep}
+use Rattle.serial_model.proofs.runs.Stuck.{IsSound}
 use Rattle.serial_model.specs.Replay.{replay}
 use Rattle.serial_model.specs.State.{Setup, UnitState, State, opening}
 use Rattle.serial_model.specs.Step.{next_made, value_of}
-use Rattle.serial_model.specs.Task.{Result}
 use Rattle.serial_model.specs.declared.actor_state.ActorState.{ActorState}
 use Rattle.serial_model.specs.declared.effect.Effect.{Effect}
 use Rattle.serial_model.specs.declared.entry.Entry.TheVariants.{Run, Take}
 use Rattle.serial_model.specs.declared.entry.Entry.{Entry}
-use Rattle.serial_model.specs.declared.request.Request.TheVariants as request
 use Rattle.world_model.specs.Gave as row
 use Rattle.world_model.specs.Gave.{Gave}
 use Rattle.world_model.specs.IsWorld.{IsSnapshot, Ranks, IsWorld}
 use Rattle.world_model.specs.Laws.{GaveKeeps}
-use Rattle.world_model.specs.Message.{Message, settled}
+use Rattle.actor_mailbox.specs.declared.message.Message.{Message}
+use Rattle.world_model.specs.Message.{settled}
 use Rattle.world_model.specs.StandsFor.{StandsFor, TakenStands}
 use Rattle.world_model.specs.World.{LiveUnit, AttemptEnd, Attempt, World, with_at}
 use Rattle.world_model.specs.rows.Attempts.{Begins, Learns, learned, with_attempt, local, does_local, with_done}

@@ -1,13 +1,12 @@
 -- The world with main alone stands for the empty history.
-use Rattle.std.proofs.Common.{◌≡◌, ◌∙◌, ◌⊎◌, inl, inr, ℕ, Bool, true, false, cond, List, [], ◌∷◌, refl, sym, ap, subst}
-use Rattle.std.specs.Prelude.{Option, None, Some}
-use Rattle.value_core.proofs.NamedLaws.{named-with_named, same_name-equal}
+use Rattle.std.proofs.Common.{◌≡◌, Bool, true, false, cond, [], refl}
+use Rattle.std.specs.Prelude.{None, Some}
 use Rattle.value_core.specs.Named.{Name, named, same_name}
-use Rattle.serial_model.specs.Replay.{replay, replay_from}
-use Rattle.serial_model.specs.State.{Setup, UnitState, State, opening, main_name, new_unit}
+use Rattle.serial_model.specs.Replay.{replay_from}
+use Rattle.serial_model.specs.State.{Setup, UnitState, opening, main_name, new_unit}
 use Rattle.world_model.specs.IsWorld.{IsWorld}
 use Rattle.world_model.specs.StandsFor.{UnitStands}
-use Rattle.world_model.specs.World.{opening_world, LiveUnit, World, with_at, sends, still}
+use Rattle.world_model.specs.World.{opening_world, sends, still}
 
 pub opens : (setup : Setup) → IsWorld setup (opening_world setup)
 unfolding replay_from

@@ -2,7 +2,7 @@
 use Rattle.std.specs.Prelude.{Some, [], ◌∷◌, ◌≡◌}
 use Rattle.value_core.specs.Named.{Name, made_by}
 use Rattle.serial_model.specs.declared.actor_state.ActorState.{ActorState}
-use Rattle.world_model.specs.Message.{Message}
+use Rattle.actor_mailbox.specs.declared.message.Message.{Message}
 use Rattle.world_model.specs.World.{Attempt, World}
 
 -- what hangs on an attempt: it, the turns whose message depends on what hangs on it, and the attempts of these

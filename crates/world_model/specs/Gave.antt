@@ -8,7 +8,7 @@ use Rattle.value_core.specs.declared.value.Value.{Value}
 use Rattle.core_syntax.specs.declared.behaviour.Behaviour.{Behaviour}
 use Rattle.core_syntax.specs.declared.node_id.NodeId.{NodeId}
 use Rattle.serial_model.specs.State.{Setup, UnitState}
-use Rattle.serial_model.specs.Step.{after_turn, answered, becoming, ended, idle, next_made, next_of, with_made}
+use Rattle.serial_model.specs.Step.{after_turn, answered, becoming, idle, next_made, next_of, with_made}
 use Rattle.serial_model.specs.declared.actor_state.ActorState.{ActorState}
 use Rattle.serial_model.specs.declared.effect.Effect.{Effect}
 use Rattle.serial_model.specs.declared.end.End.{End}
@@ -17,7 +17,8 @@ use Rattle.serial_model.specs.declared.entry.Entry.{Entry}
 use Rattle.serial_model.specs.declared.halt.Halt.TheVariants as halt
 use Rattle.serial_model.specs.declared.request.Request.TheVariants as request
 use Rattle.serial_model.specs.declared.request.Request.{Request}
-use Rattle.world_model.specs.Message.{Message, is_tentative, settled}
+use Rattle.actor_mailbox.specs.declared.message.Message.{Message}
+use Rattle.world_model.specs.Message.{is_tentative, settled}
 use Rattle.world_model.specs.World.{Attempt, AttemptEnd, LiveUnit, World, put_last, with_at}
 use Rattle.world_model.specs.rows.Attempts.{Begins, Learns, learned, local, with_attempt}
 use Rattle.world_model.specs.rows.Commits.{Commits, committed}

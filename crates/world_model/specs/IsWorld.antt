@@ -7,7 +7,7 @@ use Rattle.serial_model.specs.State.{Setup, State}
 use Rattle.serial_model.specs.Step.{value_of}
 use Rattle.serial_model.specs.declared.actor_state.ActorState.{ActorState}
 use Rattle.serial_model.specs.declared.entry.Entry.{Entry}
-use Rattle.world_model.specs.Message.{Message}
+use Rattle.actor_mailbox.specs.declared.message.Message.{Message}
 use Rattle.world_model.specs.StandsFor.{StandsFor}
 use Rattle.world_model.specs.World.{Attempt, World}
 

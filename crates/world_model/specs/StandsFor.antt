@@ -5,7 +5,7 @@ use Rattle.value_core.specs.Named.{Name, made_by, named}
 use Rattle.value_core.specs.declared.value.Value.{Value}
 use Rattle.core_syntax.specs.declared.behaviour.Behaviour.{Behaviour}
 use Rattle.serial_model.specs.State.{Setup, State, UnitState, new_unit}
-use Rattle.serial_model.specs.Step.{around, next_made, next_of, queue_of}
+use Rattle.serial_model.specs.Step.{next_made, next_of, queue_of}
 use Rattle.serial_model.specs.Task as task
 use Rattle.serial_model.specs.Task.{Around, Result, transaction}
 use Rattle.serial_model.specs.declared.actor_state.ActorState.{ActorState}
@@ -13,7 +13,9 @@ use Rattle.serial_model.specs.declared.effect.Effect.{Effect}
 use Rattle.serial_model.specs.declared.halt.Halt.TheVariants as halt
 use Rattle.serial_model.specs.declared.request.Request.TheVariants as request
 use Rattle.world_model.specs.Ahead.{RunsAhead}
-use Rattle.world_model.specs.Message.{Message, from, settled}
+use Rattle.actor_mailbox.specs.declared.message.Message.{Message}
+use Rattle.actor_mailbox.specs.Messages.{from}
+use Rattle.world_model.specs.Message.{settled}
 use Rattle.world_model.specs.World.{Attempt, AttemptEnd, LiveUnit, World, line, sends}
 
 -- A turn whose Take is held: its actor is idle in the state, and it has the name of the next turn, and started from the actor's

@@ -11,7 +11,9 @@ use Rattle.serial_model.specs.declared.effect.Effect.{Effect}
 use Rattle.serial_model.specs.declared.end.End.{End}
 use Rattle.serial_model.specs.declared.entry.Entry.{Entry}
 use Rattle.serial_model.specs.declared.request.Request.{Request}
-use Rattle.world_model.specs.Message.{Message, effects_to, sends_to, tentative, unsettled}
+use Rattle.actor_mailbox.specs.declared.message.Message.{Message}
+use Rattle.serial_model.specs.Sends.{effects_to, sends_to}
+use Rattle.world_model.specs.Message.{tentative, unsettled}
 
 -- A unit: how the history left it, or how its turn starts; its actor, while its turn's Take is held; the effects that it holds
 -- behind the Take; and where its machine stands, with the answers that it was given ahead.

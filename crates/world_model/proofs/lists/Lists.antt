@@ -1,9 +1,10 @@
 -- Laws of lists of messages.
-use Rattle.std.proofs.Common.{◌≡◌, ◌∙◌, ◌⊎◌, inl, inr, ℕ, Bool, true, false, cond, List, [], ◌∷◌, ◌++◌, map, length, drop, filter, flat_map, append_assoc, append-nil, refl, sym, ap, ap₂, subst}
-use Rattle.std.specs.Prelude.{Option, None, Some}
-use Rattle.value_core.specs.Named.{Name, same_name}
+use Rattle.std.proofs.Common.{◌≡◌, ◌∙◌, Bool, true, false, cond, List, [], ◌∷◌, ◌++◌, map, length, drop, filter, flat_map, append_assoc, refl, sym, ap}
+use Rattle.value_core.specs.Named.{Name}
 use Rattle.value_core.specs.declared.value.Value.{Value}
-use Rattle.world_model.specs.Message.{Message, settled, tentative, is_from, from, passes, definite, settle_one, settle, settle_first, stays, without, is_tentative, unsettled}
+use Rattle.actor_mailbox.specs.declared.message.Message.{Message}
+use Rattle.actor_mailbox.specs.Messages.{is_from, from, passes, definite, settle_one, settle, without}
+use Rattle.world_model.specs.Message.{settled, tentative, is_tentative}
 
 -- P of each element
 abbrev pub Each : {X : Type 0} → (X → Type 0) → List X → Type 0

@@ -1,12 +1,14 @@
 -- How the queue of one sender at one actor stands after each change of a line.
-use Rattle.std.proofs.Common.{◌≡◌, ◌∙◌, ◌⊎◌, inl, inr, ℕ, Bool, true, false, cond, List, [], ◌∷◌, ◌++◌, map, length, drop, filter, append_assoc, append-nil, refl, sym, ap, ap₂, subst}
-use Rattle.std.specs.Prelude.{Option, None, Some}
-use Rattle.value_core.proofs.NamedLaws.{same_name-itself, same_name-equal}
+use Rattle.std.proofs.Common.{◌≡◌, ◌∙◌, Bool, true, false, cond, List, [], ◌∷◌, ◌++◌, map, length, drop, filter, append_assoc, append-nil, refl, sym, ap, ap₂, subst}
+use Rattle.std.specs.Prelude.{None}
+use Rattle.value_core.proofs.NamedLaws.{same_name-itself}
 use Rattle.value_core.specs.Named.{Name, same_name}
 use Rattle.value_core.specs.declared.value.Value.{Value}
-use Rattle.world_model.specs.Message.{Message, settled, tentative, is_from, from, passes, definite, settle_one, settle, settle_first, stays, without, is_tentative, unsettled}
+use Rattle.actor_mailbox.specs.declared.message.Message.{Message}
+use Rattle.actor_mailbox.specs.Messages.{is_from, from, passes, definite, settle_one, settle, stays, without}
+use Rattle.world_model.specs.Message.{settled, tentative, settle_or_put, is_tentative, unsettled}
 use Rattle.world_model.specs.StandsFor.{QueueStands}
-use Rattle.world_model.proofs.lists.Lists.{Each, each-left, each-right, each-map, map-append, drop-left, filter-append, filter-swap, filter-all, filter-none, from-settle, settle-settled, settle-others, settle-tentative, without-settled, without-others, tentative-settled}
+use Rattle.world_model.proofs.lists.Lists.{Each, each-left, each-right, each-map, map-append, drop-left, filter-append, filter-swap, filter-all, filter-none, from-settle, settle-settled, settle-others, settle-tentative, without-settled, tentative-settled}
 
 abbrev pub AreTentative : List Message → Type 0
 AreTentative ms = Each (λ m. is_tentative m ≡ true) ms
@@ -135,43 +137,43 @@ abbrev pub AreOwn : (Name → Bool) → Name → List Message → Type 0
 AreOwn test u ms = Each (λ m. passes test m.depends ≡ true → is_from u m ≡ true) ms
 
 pub first-from : (u : Name) (test : Name → Bool) (last : Message) (ms : List Message) → is_from u last ≡ true → AreOwn test u ms
-    → from u (settle_first test last ms) ≡ settle_first test last (from u ms)
+    → from u (settle_or_put test last ms) ≡ settle_or_put test last (from u ms)
 first-from u test last [] is own = ap (λ b. cond b (last ∷ []) []) is
 first-from u test last (m ∷ ms) is own = on (passes test m.depends) (is_from u m) refl refl (first-from u test last ms is own.1)
   where
-    on : (p f : Bool) → passes test m.depends ≡ p → is_from u m ≡ f → from u (settle_first test last ms) ≡ settle_first test last (from u ms)
-        → from u (cond p (definite m ∷ ms) (m ∷ settle_first test last ms)) ≡ settle_first test last (cond f (m ∷ from u ms) (from u ms))
+    on : (p f : Bool) → passes test m.depends ≡ p → is_from u m ≡ f → from u (settle_or_put test last ms) ≡ settle_or_put test last (from u ms)
+        → from u (cond p (definite m ∷ ms) (m ∷ settle_or_put test last ms)) ≡ settle_or_put test last (cond f (m ∷ from u ms) (from u ms))
     on true true pe fe rest = rw (fe, pe) refl
     on true false pe fe rest = let no : is_from u m ≡ true = own.0 pe in cc
     on false true pe fe rest = rw (fe, pe) (ap (λ (zs : List Message). m ∷ zs) rest)
     on false false pe fe rest = rw fe rest
 
 pub first-from-other : (u : Name) (test : Name → Bool) (last : Message) (ms : List Message) → is_from u last ≡ false → Each (λ m. passes test m.depends ≡ true → is_from u m ≡ false) ms
-    → from u (settle_first test last ms) ≡ from u ms
+    → from u (settle_or_put test last ms) ≡ from u ms
 first-from-other u test last [] not own = ap (λ b. cond b (last ∷ []) []) not
 first-from-other u test last (m ∷ ms) not own = on (passes test m.depends) refl (first-from-other u test last ms not own.1)
   where
-    on : (p : Bool) → passes test m.depends ≡ p → from u (settle_first test last ms) ≡ from u ms
-        → from u (cond p (definite m ∷ ms) (m ∷ settle_first test last ms)) ≡ cond (is_from u m) (m ∷ from u ms) (from u ms)
+    on : (p : Bool) → passes test m.depends ≡ p → from u (settle_or_put test last ms) ≡ from u ms
+        → from u (cond p (definite m ∷ ms) (m ∷ settle_or_put test last ms)) ≡ cond (is_from u m) (m ∷ from u ms) (from u ms)
     on true pe rest = rw (own.0 pe) refl
     on false pe rest = ap (λ (zs : List Message). cond (is_from u m) (m ∷ zs) zs) rest
 
 first-settled : (u : Name) (test : Name → Bool) (last : Message) (queue : List (List Value)) (put : List Message)
-    → settle_first test last (map (settled u) queue ++ put) ≡ map (settled u) queue ++ settle_first test last put
+    → settle_or_put test last (map (settled u) queue ++ put) ≡ map (settled u) queue ++ settle_or_put test last put
 first-settled u test last [] put = refl
 first-settled u test last (args ∷ queue) put = ap (λ zs. settled u args ∷ zs) (first-settled u test last queue put)
 
 pub queue-settles-first : (u : Name) (test : Name → Bool) (ms ps : List Message) (queue : List (List Value)) (args : List Value) → test u ≡ true → AreOwn test u ms
-    → QueueStands u ms (tentative u u args ∷ ps) queue → QueueStands u (settle_first test (settled u args) ms) ps (queue ++ args ∷ [])
+    → QueueStands u ms (tentative u u args ∷ ps) queue → QueueStands u (settle_or_put test (settled u args) ms) ps (queue ++ args ∷ [])
 queue-settles-first u test ms ps queue args is own at =
-    on at.put at.whole (first-from u test (settled u args) ms (same_name-itself u) own ∙ ap (settle_first test (settled u args)) at.stands ∙ first-settled u test (settled u args) queue at.put)
+    on at.put at.whole (first-from u test (settled u args) ms (same_name-itself u) own ∙ ap (settle_or_put test (settled u args)) at.stands ∙ first-settled u test (settled u args) queue at.put)
   where
     Moved : List Message → Type 0
-    Moved after = from u (settle_first test (settled u args) ms) ≡ map (settled u) queue ++ after
+    Moved after = from u (settle_or_put test (settled u args) ms) ≡ map (settled u) queue ++ after
 
     on : (put : List Message) → tentative u u args ∷ ps ≡ put ++ at.kept
-        → from u (settle_first test (settled u args) ms) ≡ map (settled u) queue ++ settle_first test (settled u args) put
-        → QueueStands u (settle_first test (settled u args) ms) ps (queue ++ args ∷ [])
+        → from u (settle_or_put test (settled u args) ms) ≡ map (settled u) queue ++ settle_or_put test (settled u args) put
+        → QueueStands u (settle_or_put test (settled u args) ms) ps (queue ++ args ∷ [])
     on [] whole e = record {
       put = [];
       kept = ps;
@@ -181,18 +183,18 @@ queue-settles-first u test ms ps queue args is own at =
     on (h ∷ put) whole e =
         let head : tentative u u args ≡ h = cc in
         let tail : ps ≡ put ++ at.kept = cc in
-        let first : settle_first test (settled u args) (tentative u u args ∷ put) ≡ settled u args ∷ put = ap (λ b. cond b (settled u args ∷ put) (tentative u u args ∷ settle_first test (settled u args) put)) is in
+        let first : settle_or_put test (settled u args) (tentative u u args ∷ put) ≡ settled u args ∷ put = ap (λ b. cond b (settled u args ∷ put) (tentative u u args ∷ settle_or_put test (settled u args) put)) is in
         record {
           put = put;
           kept = at.kept;
           whole = tail;
-          stands = e ∙ ap (λ (zs : List Message). map (settled u) queue ++ zs) (ap (λ (m : Message). settle_first test (settled u args) (m ∷ put)) (sym head) ∙ first)
+          stands = e ∙ ap (λ (zs : List Message). map (settled u) queue ++ zs) (ap (λ (m : Message). settle_or_put test (settled u args) (m ∷ put)) (sym head) ∙ first)
               ∙ sym (append_assoc (map (settled u) queue) (settled u args ∷ []) put)
               ∙ ap (λ (zs : List Message). zs ++ put) (sym (map-append (settled u) queue (args ∷ [])));
         }
 
 pub queue-settles-first-other : (u v : Name) (test : Name → Bool) (ms ps : List Message) (queue : List (List Value)) (args : List Value) → same_name v u ≡ false
-    → Each (λ m. passes test m.depends ≡ true → is_from v m ≡ false) ms → QueueStands v ms ps queue → QueueStands v (settle_first test (settled u args) ms) ps queue
+    → Each (λ m. passes test m.depends ≡ true → is_from v m ≡ false) ms → QueueStands v ms ps queue → QueueStands v (settle_or_put test (settled u args) ms) ps queue
 queue-settles-first-other u v test ms ps queue args apart own at = record {
   put = at.put;
   kept = at.kept;

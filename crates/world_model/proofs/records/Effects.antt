@@ -1,7 +1,7 @@
 -- What the effects of a commit do to the state, part by part.
-use Rattle.std.proofs.Common.{◌≡◌, ◌∙◌, ℕ, Bool, true, false, cond, List, [], ◌∷◌, ◌++◌, append_assoc, append-nil, refl, sym, ap, ap₂, subst}
-use Rattle.std.specs.Prelude.{Option, None, Some}
-use Rattle.value_core.proofs.NamedLaws.{named-with_named, same_name-equal, same_name-itself}
+use Rattle.std.proofs.Common.{◌≡◌, ◌∙◌, ℕ, Bool, true, false, cond, List, [], ◌∷◌, ◌++◌, append_assoc, append-nil, refl, sym, ap, subst}
+use Rattle.std.specs.Prelude.{Option, Some}
+use Rattle.value_core.proofs.NamedLaws.{named-with_named, same_name-equal}
 use Rattle.value_core.specs.Named.{Name, Named, named, with_named, over, same_name}
 use Rattle.value_core.specs.declared.value.Value.{Value}
 use Rattle.serial_model.specs.State.{UnitState, State}
@@ -10,7 +10,7 @@ use Rattle.serial_model.specs.declared.actor_state.ActorState.{ActorState}
 use Rattle.serial_model.specs.declared.effect.Effect.{Effect}
 use Rattle.serial_model.specs.declared.effect.What.TheVariants as what
 use Rattle.serial_model.specs.declared.effect.What.{What}
-use Rattle.world_model.specs.Message.{if_to, what_sends, effects_to}
+use Rattle.serial_model.specs.Sends.{what_sends, effects_to}
 use Rattle.world_model.specs.World.{with_at}
 use Rattle.world_model.specs.rows.Commits.{what_actor, effects_actors, what_unit, effects_unit, what_bytes, effects_bytes, over_at}
 use Rattle.world_model.proofs.records.Steps.{queue-here, queue-sender, queue-actor}

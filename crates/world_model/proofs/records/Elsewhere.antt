@@ -1,19 +1,18 @@
 -- What an effect does elsewhere than at its unit: the world and the state change alike.
 use Rattle.std.proofs.Common.{◌≡◌, ◌∙◌, ℕ, suc, Bool, true, false, cond, List, [], ◌∷◌, ◌++◌, refl, sym, ap, subst}
-use Rattle.std.specs.Prelude.{Option, None, Some}
+use Rattle.std.specs.Prelude.{None, Some}
 use Rattle.value_core.proofs.NamedLaws.{named-with_named, same_name-equal}
-use Rattle.value_core.specs.Named.{Name, named, with_named, same_name, made_by}
+use Rattle.value_core.specs.Named.{Name, named, with_named, same_name}
 use Rattle.value_core.specs.declared.value.Value.{Value}
 use Rattle.core_syntax.specs.declared.node_id.NodeId.{NodeId}
-use Rattle.serial_model.specs.State.{Setup, UnitState, State, new_unit}
+use Rattle.serial_model.specs.State.{Setup, State, new_unit}
 use Rattle.serial_model.specs.Step.{queue_of}
 use Rattle.serial_model.specs.declared.actor_state.ActorState.{ActorState}
-use Rattle.world_model.specs.Message.{Message}
-use Rattle.world_model.specs.StandsFor.{HasBegun, TakenStands, UnitStands, QueueStands, AttemptStands, StandsFor}
-use Rattle.world_model.specs.World.{LiveUnit, Attempt, World, with_at, line, sends, held_sends, attempt_sends}
+use Rattle.actor_mailbox.specs.declared.message.Message.{Message}
+use Rattle.world_model.specs.StandsFor.{TakenStands, UnitStands, QueueStands, AttemptStands, StandsFor}
+use Rattle.world_model.specs.World.{World, with_at, line, held_sends, attempt_sends}
 use Rattle.world_model.specs.rows.Effects.{new_live}
-use Rattle.world_model.proofs.records.Effects.{put-as}
-use Rattle.world_model.proofs.records.Frames.{at-here, at-other, no-unit, no-attempt, IsMoved, unit-moves, taken-again}
+use Rattle.world_model.proofs.records.Frames.{no-attempt, unit-moves, taken-again}
 
 module _ (setup : Setup) (w : World) (s : State) (st : StandsFor setup w s) where
   pub with-bytes : (text : List ℕ) → StandsFor setup (record w { bytes = w.bytes ++ text }) (record s { bytes = s.bytes ++ text })

@@ -4,16 +4,15 @@ use Rattle.std.specs.Prelude.{Option, None, Some}
 use Rattle.value_core.proofs.NamedLaws.{same_name-itself, same_name-equal}
 use Rattle.value_core.specs.Named.{Name, same_name, made_by}
 use Rattle.value_core.specs.Place.{Spot}
-use Rattle.core_syntax.specs.declared.node_id.NodeId.{NodeId}
 use Rattle.serial_model.specs.State.{Setup, UnitState, new_unit}
 use Rattle.serial_model.specs.declared.actor_state.ActorState.{ActorState}
 use Rattle.serial_model.specs.declared.halt.Halt.TheVariants as halt
 use Rattle.serial_model.specs.declared.request.Request.TheVariants as request
 use Rattle.serial_model.specs.declared.request.Request.{Request}
 use Rattle.world_model.specs.Ahead.{ahead, IsHeld, RunsAhead}
-use Rattle.world_model.specs.Message.{Message}
-use Rattle.world_model.specs.StandsFor.{IsBegunTurn, LiveStands, UnitStands, IsAttempt, AttemptStands, HasBegun, TakenStands}
-use Rattle.world_model.specs.World.{LiveUnit, Attempt, World, with_at}
+use Rattle.actor_mailbox.specs.declared.message.Message.{Message}
+use Rattle.world_model.specs.StandsFor.{IsBegunTurn, LiveStands, UnitStands, AttemptStands, HasBegun, TakenStands}
+use Rattle.world_model.specs.World.{LiveUnit, Attempt, with_at}
 
 pub at-here : {X : Type 0} (f : Name → X) (k : Name) (x : X) → with_at f k x k ≡ x
 at-here f k x = ap (λ b. cond b x (f k)) (same_name-itself k)

@@ -1,13 +1,12 @@
 -- A unit has one unsettled send more, or none, and its other sends are as they were.
 use Rattle.std.proofs.Common.{◌≡◌, ◌∙◌, Bool, true, false, cond, List, [], ◌∷◌, ◌++◌, append_assoc, refl, sym, ap, subst}
-use Rattle.std.specs.Prelude.{Option, None, Some}
 use Rattle.value_core.proofs.NamedLaws.{same_name-equal, same_name-itself}
 use Rattle.value_core.specs.Named.{Name, same_name}
 use Rattle.serial_model.specs.State.{Setup, State}
 use Rattle.serial_model.specs.Step.{queue_of}
-use Rattle.world_model.specs.Message.{Message, is_from}
+use Rattle.actor_mailbox.specs.declared.message.Message.{Message}
 use Rattle.world_model.specs.StandsFor.{QueueStands, StandsFor}
-use Rattle.world_model.specs.World.{World, with_at, line, sends, kept_sends, put_last}
+use Rattle.world_model.specs.World.{World, line, sends, kept_sends, put_last}
 use Rattle.world_model.proofs.lists.Queues.{queue-puts, queue-keeps, queue-others, queue-kept}
 use Rattle.world_model.proofs.records.Sends.{sends-tentative}
 

@@ -1,9 +1,8 @@
 -- What the names of a world's units, turns and attempts owe to those of the state.
-use Rattle.std.proofs.Common.{◌≡◌, ◌∙◌, ◌⊎◌, inl, inr, ℕ, suc, ◌≤◌, ◌<◌, Bool, true, false, cond, List, [], ◌∷◌, ◌++◌, append_assoc, refl, sym, ap, ap₂, subst, arith}
+use Rattle.std.proofs.Common.{◌≡◌, ◌∙◌, ℕ, ◌≤◌, ◌<◌, List, [], ◌∷◌, ◌++◌, append_assoc, refl, sym, ap, ap₂, subst, arith}
 use Rattle.std.specs.Prelude.{Option, None, Some}
-use Rattle.value_core.proofs.NamedLaws.{same_name-equal}
-use Rattle.value_core.specs.Named.{Name, named, made_by, same_name}
-use Rattle.serial_model.proofs.runs.Fresh.{Makes, OfUnit, OfActor}
+use Rattle.value_core.specs.Named.{Name, named, made_by}
+use Rattle.serial_model.proofs.runs.Fresh.{OfUnit, OfActor}
 use Rattle.serial_model.proofs.runs.Made.{IsMade}
 use Rattle.serial_model.specs.Ahead.{answer_ahead}
 use Rattle.serial_model.specs.State.{Setup, UnitState, State}
@@ -13,9 +12,9 @@ use Rattle.serial_model.specs.declared.answer.Answer.TheVariants as answer
 use Rattle.serial_model.specs.declared.answer.Answer.{Answer}
 use Rattle.serial_model.specs.declared.request.Request.TheVariants as request
 use Rattle.serial_model.specs.declared.request.Request.{Request}
-use Rattle.world_model.specs.Ahead.{after_answer, ahead, IsHeld, RunsAhead}
-use Rattle.world_model.specs.Message.{Message}
-use Rattle.world_model.specs.StandsFor.{IsBegunTurn, LiveStands, UnitStands, AttemptStands, StandsFor}
+use Rattle.world_model.specs.Ahead.{after_answer, ahead, RunsAhead}
+use Rattle.actor_mailbox.specs.declared.message.Message.{Message}
+use Rattle.world_model.specs.StandsFor.{LiveStands, UnitStands, AttemptStands, StandsFor}
 use Rattle.world_model.specs.World.{LiveUnit, Attempt, World}
 
 -- who made a thing is told by its name

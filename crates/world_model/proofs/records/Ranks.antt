@@ -1,18 +1,18 @@
 -- Nothing hangs on itself: the ranks, row by row.
-use Rattle.std.proofs.Common.{◌≡◌, ◌∙◌, ◌⊎◌, inl, inr, ℕ, suc, ◌<◌, ◌≤◌, Bool, true, false, cond, List, [], ◌∷◌, ◌++◌, refl, sym, ap, subst, arith}
+use Rattle.std.proofs.Common.{◌≡◌, ◌∙◌, ℕ, suc, ◌<◌, ◌≤◌, Bool, true, false, cond, List, [], ◌∷◌, ◌++◌, refl, sym, ap, subst, arith}
 use Rattle.std.specs.Prelude.{◌||◌, Option, None, Some}
-use Rattle.value_core.proofs.NamedLaws.{same_name-equal, same_name-itself}
+use Rattle.value_core.proofs.NamedLaws.{same_name-equal}
 use Rattle.value_core.specs.Named.{Name, named, same_name, made_by}
-use Rattle.value_core.specs.declared.value.Value.{Value}
 use Rattle.serial_model.proofs.runs.Made.{IsMade}
 use Rattle.serial_model.specs.State.{Setup, UnitState, State}
 use Rattle.serial_model.specs.declared.actor_state.ActorState.{ActorState}
 use Rattle.serial_model.specs.declared.effect.Effect.{Effect}
 use Rattle.world_model.specs.Dependence.{DependsOn, itself, turn, attempt}
 use Rattle.world_model.specs.IsWorld.{Ranks}
-use Rattle.world_model.specs.Message.{Message, settled, passes, definite, settle, settle_one, settle_first, stays, without}
+use Rattle.actor_mailbox.specs.declared.message.Message.{Message}
+use Rattle.actor_mailbox.specs.Messages.{passes, definite, settle, settle_one, stays, without}
 use Rattle.world_model.specs.StandsFor.{LiveStands, UnitStands, HasBegun, TakenStands, StandsFor}
-use Rattle.world_model.specs.World.{LiveUnit, Attempt, World, with_at, line, sends}
+use Rattle.world_model.specs.World.{LiveUnit, Attempt, World, with_at, line}
 use Rattle.world_model.specs.rows.Attempts.{with_done, does_local, local}
 use Rattle.world_model.specs.rows.Effects.{settled_taken}
 use Rattle.world_model.specs.rows.Undone.{unless_gone}

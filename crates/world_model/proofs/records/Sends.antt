@@ -1,5 +1,5 @@
 -- What holds of the unsettled sends of a unit, and of whoever depends on a name.
-use Rattle.std.proofs.Common.{◌≡◌, ◌∙◌, Bool, true, false, cond, List, [], ◌∷◌, ◌++◌, map, refl, sym, ap, subst}
+use Rattle.std.proofs.Common.{◌≡◌, ◌∙◌, Bool, true, false, cond, List, [], ◌∷◌, map, refl, sym, ap, subst}
 use Rattle.std.specs.Prelude.{Option, None, Some}
 use Rattle.value_core.proofs.NamedLaws.{same_name-itself, same_name-equal}
 use Rattle.value_core.specs.Named.{Name, same_name}
@@ -7,10 +7,13 @@ use Rattle.value_core.specs.declared.value.Value.{Value}
 use Rattle.serial_model.proofs.runs.Made.{IsMade}
 use Rattle.serial_model.specs.State.{Setup, State}
 use Rattle.serial_model.specs.Step.{queue_of}
-use Rattle.world_model.specs.Message.{Message, settled, tentative, is_from, from, passes, is_tentative, sends_to, effects_to}
-use Rattle.world_model.specs.StandsFor.{QueueStands, StandsFor}
+use Rattle.actor_mailbox.specs.declared.message.Message.{Message}
+use Rattle.actor_mailbox.specs.Messages.{is_from, from, passes}
+use Rattle.serial_model.specs.Sends.{sends_to, effects_to}
+use Rattle.world_model.specs.Message.{settled, tentative, is_tentative}
+use Rattle.world_model.specs.StandsFor.{StandsFor}
 use Rattle.world_model.specs.World.{LiveUnit, Attempt, World, line, sends, held_sends, attempt_sends}
-use Rattle.world_model.proofs.lists.Lists.{Each, each-left, each-append, each-map, each-to}
+use Rattle.world_model.proofs.lists.Lists.{Each, each-left, each-append, each-map}
 use Rattle.world_model.proofs.lists.Queues.{AreTentative}
 use Rattle.world_model.proofs.records.Names.{no-unit-of-root}
 

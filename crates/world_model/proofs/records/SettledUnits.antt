@@ -1,22 +1,12 @@
 -- The units of the state.
-use Rattle.std.proofs.Common.{◌≡◌, ◌∙◌, List, [], ◌∷◌, ◌++◌, refl, sym, ap, subst}
+use Rattle.std.proofs.Common.{◌≡◌, ◌∙◌, List, [], ◌∷◌, refl, ap, subst}
 use Rattle.std.specs.Prelude.{Option, None, Some}
 use Rattle.value_core.specs.Named.{Name, named}
-use Rattle.value_core.specs.Place.{Spot}
-use Rattle.value_core.specs.declared.code.Code.{Code}
-use Rattle.serial_model.proofs.runs.StepCases.{IsRunning}
 use Rattle.serial_model.specs.State.{Setup, UnitState, State}
-use Rattle.serial_model.specs.Step.{step, goes_on, next_of, fails}
-use Rattle.serial_model.specs.declared.actor_state.ActorState.{ActorState}
-use Rattle.serial_model.specs.declared.end.End.TheVariants as end
-use Rattle.serial_model.specs.declared.entry.Entry.TheVariants.{Run, Take}
-use Rattle.serial_model.specs.declared.halt.Halt.TheVariants as halt
 use Rattle.serial_model.specs.declared.request.Request.{Request}
 use Rattle.world_model.specs.Ahead.{RunsAhead}
-use Rattle.world_model.specs.Message.{Message}
 use Rattle.world_model.specs.StandsFor.{LiveStands, UnitStands, StandsFor}
 use Rattle.world_model.specs.World.{LiveUnit, World}
-use Rattle.world_model.proofs.records.Steps.{Settles, step-runs}
 
 -- a unit without a held Take is in the state
 pub record IsSettledUnit (setup : Setup) (s : State) (u : Name) (x : LiveUnit) : Type 0 where

@@ -1,28 +1,14 @@
 -- What a commit spawns is new.
-use Rattle.std.proofs.Common.{◌≡◌, ◌∙◌, ◌⊎◌, inl, inr, ℕ, suc, ◌<◌, Bool, true, false, cond, List, [], ◌∷◌, ◌++◌, append_assoc, refl, sym, ap, subst, arith}
-use Rattle.std.specs.Prelude.{Option, None, Some}
+use Rattle.std.proofs.Common.{◌≡◌, ◌∙◌, inl, inr, Bool, true, false, cond, List, [], ◌∷◌, refl}
+use Rattle.std.specs.Prelude.{Option, Some}
 use Rattle.value_core.proofs.NamedLaws.{same_name-equal}
-use Rattle.value_core.specs.Named.{Name, named, same_name, made_by}
-use Rattle.value_core.specs.Place.{Spot}
-use Rattle.value_core.specs.declared.value.Value.{Value}
-use Rattle.core_syntax.specs.WellFormed.{IsWellFormed}
-use Rattle.core_syntax.specs.declared.node_id.NodeId.{NodeId}
-use Rattle.serial_model.proofs.runs.Fresh.{Makes, OfUnit, OfActor}
-use Rattle.serial_model.proofs.runs.Scoped.{transaction-kept}
-use Rattle.serial_model.proofs.runs.StepCases.{IsRunning}
-use Rattle.serial_model.proofs.runs.Stuck.{IsSound}
-use Rattle.serial_model.proofs.tasks.TaskKeeps.{transactions-keep}
+use Rattle.value_core.specs.Named.{Name, same_name}
 use Rattle.serial_model.proofs.tasks.TaskScope.{IsSpawned, Spawns}
-use Rattle.serial_model.specs.State.{Setup, UnitState, State}
-use Rattle.serial_model.specs.Step.{next_of, next_made, around, idle}
-use Rattle.serial_model.specs.Task.{Result, transaction}
+use Rattle.serial_model.specs.Step.{idle}
 use Rattle.serial_model.specs.declared.actor_state.ActorState.{ActorState}
 use Rattle.serial_model.specs.declared.effect.Effect.{Effect}
 use Rattle.serial_model.specs.declared.effect.What.TheVariants as what
 use Rattle.serial_model.specs.declared.effect.What.{What}
-use Rattle.serial_model.specs.declared.halt.Halt.TheVariants as halt
-use Rattle.serial_model.specs.declared.request.Request.TheVariants as request
-use Rattle.world_model.specs.World.{with_at}
 use Rattle.world_model.specs.rows.Commits.{what_actor, effects_actors}
 
 -- an actor that the effects do not spawn is as it was

@@ -1,23 +1,18 @@
 -- What an entry does to the state, where it is enabled.
-use Rattle.std.proofs.Common.{◌≡◌, ◌∙◌, ℕ, suc, ◌==◌, Bool, true, false, cond, List, [], ◌∷◌, ◌++◌, refl, sym, ap, subst}
+use Rattle.std.proofs.Common.{◌≡◌, ◌∙◌, ◌==◌, Bool, true, false, cond, List, [], refl, sym, ap, subst}
 use Rattle.std.specs.Option.{option_and_then, unwrap_or}
 use Rattle.std.specs.Prelude.{Option, None, Some}
 use Rattle.value_core.proofs.NamedLaws.{named-with_named, named-here, same_name-equal}
 use Rattle.value_core.specs.Named.{Name, Named, named, with_named, same_name}
-use Rattle.value_core.specs.Place.{Spot}
-use Rattle.value_core.specs.declared.code.Code.{Code}
 use Rattle.value_core.specs.declared.value.Value.{Value}
 use Rattle.core_syntax.specs.declared.behaviour.Behaviour.{Behaviour}
 use Rattle.serial_model.proofs.runs.StepCases.{IsRunning, IsTaking, begun}
 use Rattle.serial_model.specs.State.{Setup, UnitState, State, Queues}
-use Rattle.serial_model.specs.Step.{step, queue_of, with_queue, next_of, goes_on, does, fails, ended}
+use Rattle.serial_model.specs.Step.{step, queue_of, with_queue, next_of, goes_on, ended}
 use Rattle.serial_model.specs.declared.actor_state.ActorState.{ActorState}
 use Rattle.serial_model.specs.declared.end.End.TheVariants as end
 use Rattle.serial_model.specs.declared.entry.Entry.TheVariants.{Run, Take}
 use Rattle.serial_model.specs.declared.entry.Entry.{Entry}
-use Rattle.serial_model.specs.declared.halt.Halt.TheVariants as halt
-use Rattle.serial_model.specs.declared.halt.Halt.{Halt}
-use Rattle.serial_model.specs.declared.request.Request.{Request}
 use Rattle.world_model.specs.StandsFor.{StandsFor}
 use Rattle.world_model.specs.World.{World}
 

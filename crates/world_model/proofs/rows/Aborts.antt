@@ -1,13 +1,14 @@
 -- Aborted: what hangs on an attempt, by whatever ways, is gone.
-use Rattle.std.proofs.Common.{◌≡◌, ◌∙◌, Bool, true, false, cond, List, [], ◌∷◌, ◌++◌, refl, sym, ap, subst}
-use Rattle.std.specs.Prelude.{Option, None, Some}
-use Rattle.value_core.specs.Named.{Name, named, made_by}
+use Rattle.std.proofs.Common.{◌≡◌, ◌∙◌, Bool, true, false, cond, List, [], ◌∷◌, refl, sym, ap, subst}
+use Rattle.std.specs.Prelude.{Option, None, Some, not}
+use Rattle.value_core.specs.Named.{Name, made_by}
 use Rattle.serial_model.proofs.runs.Made.{IsMade}
 use Rattle.serial_model.specs.State.{Setup, State}
 use Rattle.serial_model.specs.declared.actor_state.ActorState.{ActorState}
 use Rattle.world_model.specs.Dependence.{DependsOn, itself, turn, attempt}
 use Rattle.world_model.specs.IsWorld.{Ranks}
-use Rattle.world_model.specs.Message.{Message, passes, stays, without}
+use Rattle.actor_mailbox.specs.declared.message.Message.{Message}
+use Rattle.actor_mailbox.specs.Messages.{passes, without}
 use Rattle.world_model.specs.StandsFor.{HasBegun, TakenStands, StandsFor}
 use Rattle.world_model.specs.World.{LiveUnit, Attempt, World, line}
 use Rattle.world_model.specs.rows.Undone.{Aborts, unless_gone, undone}
@@ -22,8 +23,8 @@ same_tests false true to back = back refl
 same_tests false false to back = refl
 
 is_false : (b : Bool) → (b ≡ true → ⊥) → b ≡ false
-is_false true not = absurd (not refl)
-is_false false not = refl
+is_false true so = absurd (so refl)
+is_false false so = refl
 
 module _ (setup : Setup) (w : World) (s : State) (u : Name) (root : Attempt) (gone : Name → Bool) (st : StandsFor setup w s) (made : IsMade s) (row : Aborts w u root gone) where
   -- the turn on a message that is taken
@@ -78,7 +79,7 @@ pub none-depends : (gone : Name → Bool) (ms : List Message) → Each (λ m. pa
 none-depends gone [] = tt
 none-depends gone (m ∷ ms) = on (passes gone m.depends) refl (none-depends gone ms)
   where
-    on : (p : Bool) → passes gone m.depends ≡ p → Each (λ m. passes gone m.depends ≡ false) (without gone ms) → Each (λ m. passes gone m.depends ≡ false) (cond (cond p false true) (m ∷ without gone ms) (without gone ms))
+    on : (p : Bool) → passes gone m.depends ≡ p → Each (λ m. passes gone m.depends ≡ false) (without gone ms) → Each (λ m. passes gone m.depends ≡ false) (cond (not p) (m ∷ without gone ms) (without gone ms))
     on true e rest = rest
     on false e rest = (e, rest)
 

@@ -1,19 +1,19 @@
 -- Began and Local: an attempt begins, and its root does more.
-use Rattle.std.proofs.Common.{◌≡◌, ◌∙◌, Bool, true, false, cond, List, [], ◌∷◌, ◌++◌, map, append_assoc, append-nil, refl, sym, ap, ap₂, subst, subst₂}
+use Rattle.std.proofs.Common.{◌≡◌, ◌∙◌, Bool, true, false, cond, List, [], ◌∷◌, ◌++◌, map, append_assoc, append-nil, refl, sym, ap, subst, subst₂}
 use Rattle.std.specs.Prelude.{Option, None, Some}
 use Rattle.value_core.proofs.NamedLaws.{same_name-equal, same_name-itself}
-use Rattle.value_core.specs.Named.{Name, named, same_name}
+use Rattle.value_core.specs.Named.{Name, same_name}
 use Rattle.value_core.specs.declared.value.Value.{Value}
 use Rattle.serial_model.specs.State.{Setup, State}
 use Rattle.serial_model.specs.Step.{queue_of}
-use Rattle.serial_model.specs.Task.{Result}
-use Rattle.serial_model.specs.declared.actor_state.ActorState.{ActorState}
 use Rattle.serial_model.specs.declared.effect.Effect.{Effect}
 use Rattle.serial_model.specs.declared.effect.What.TheVariants as what
 use Rattle.serial_model.specs.declared.effect.What.{What}
-use Rattle.world_model.specs.Message.{Message, tentative, what_sends, effects_to}
+use Rattle.actor_mailbox.specs.declared.message.Message.{Message}
+use Rattle.serial_model.specs.Sends.{what_sends, effects_to}
+use Rattle.world_model.specs.Message.{tentative}
 use Rattle.world_model.specs.StandsFor.{QueueStands, IsEnd, IsAttempt, AttemptStands, StandsFor}
-use Rattle.world_model.specs.World.{LiveUnit, AttemptEnd, Attempt, World, with_at, line, sends, kept_sends, held_sends, attempt_sends, put_last, is_empty, is_some}
+use Rattle.world_model.specs.World.{LiveUnit, AttemptEnd, Attempt, World, line, sends, kept_sends, held_sends, attempt_sends, put_last, is_empty, is_some}
 use Rattle.world_model.specs.rows.Attempts.{Begins, Learns, learned, with_attempt, with_done, done_more, mails_done, does_local, local}
 use Rattle.world_model.proofs.lists.Lists.{map-append, flat_map-append}
 use Rattle.world_model.proofs.records.Frames.{at-here}

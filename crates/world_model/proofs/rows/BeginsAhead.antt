@@ -1,6 +1,6 @@
 -- Held, where a turn is begun: nothing of what the world stands for changes.
-use Rattle.std.proofs.Common.{◌≡◌, ◌∙◌, Bool, true, false, cond, List, [], ◌∷◌, ◌++◌, refl, sym, ap, ap₂, subst, subst₂}
-use Rattle.std.specs.Prelude.{Option, None, Some}
+use Rattle.std.proofs.Common.{◌≡◌, ◌∙◌, Bool, true, false, cond, List, [], ◌∷◌, ◌++◌, refl, sym, ap, ap₂, subst₂}
+use Rattle.std.specs.Prelude.{None, Some}
 use Rattle.value_core.proofs.NamedLaws.{same_name-equal}
 use Rattle.value_core.specs.Named.{Name, named, same_name, made_by}
 use Rattle.core_syntax.specs.declared.behaviour.Behaviour.{Behaviour}
@@ -8,9 +8,9 @@ use Rattle.serial_model.proofs.runs.Made.{IsMade}
 use Rattle.serial_model.specs.State.{Setup, State}
 use Rattle.serial_model.specs.Step.{queue_of}
 use Rattle.serial_model.specs.declared.actor_state.ActorState.{ActorState}
-use Rattle.world_model.specs.Message.{Message}
-use Rattle.world_model.specs.StandsFor.{IsBegunTurn, UnitStands, QueueStands, AttemptStands, TakenStands, StandsFor}
-use Rattle.world_model.specs.World.{LiveUnit, Attempt, World, with_at, line, sends, held_sends, attempt_sends}
+use Rattle.actor_mailbox.specs.declared.message.Message.{Message}
+use Rattle.world_model.specs.StandsFor.{UnitStands, QueueStands, AttemptStands, TakenStands, StandsFor}
+use Rattle.world_model.specs.World.{World, with_at, held_sends, attempt_sends}
 use Rattle.world_model.specs.rows.Turns.{BeginsAhead, live_turn, begun_ahead}
 use Rattle.world_model.proofs.records.Frames.{at-here, at-other, no-unit, no-attempt, IsMoved, unit-moves, taken-again}
 use Rattle.world_model.proofs.records.Names.{new-turn}

@@ -1,12 +1,9 @@
 -- Settled, where it is a commit.
-use Rattle.std.proofs.Common.{◌≡◌, ◌∙◌, ℕ, Bool, true, false, cond, List, [], ◌∷◌, ◌++◌, map, append_assoc, append-nil, refl, sym, ap, ap₂, subst, subst₂}
-use Rattle.std.specs.Option.{option_and_then}
-use Rattle.std.specs.Prelude.{Contains, Option, None, Some, if◌then◌else◌}
+use Rattle.std.proofs.Common.{◌≡◌, ◌∙◌, ℕ, Bool, true, false, cond, [], ◌∷◌, ◌++◌, map, append_assoc, refl, sym, ap, ap₂, subst, subst₂}
+use Rattle.std.specs.Prelude.{Contains, Option, None, Some}
 use Rattle.value_core.proofs.NamedLaws.{named-with_named, same_name-equal, same_name-itself}
-use Rattle.value_core.specs.Futures.{holds_future}
-use Rattle.value_core.specs.Named.{Name, Named, named, with_named, over, same_name, made_by}
+use Rattle.value_core.specs.Named.{Name, named, with_named, over, same_name}
 use Rattle.value_core.specs.Place.{Spot}
-use Rattle.value_core.specs.declared.code.Code.TheVariants as code
 use Rattle.value_core.specs.declared.code.Code.{Code}
 use Rattle.value_core.specs.declared.value.Value.{Value}
 use Rattle.core_syntax.specs.WellFormed.{IsWellFormed}
@@ -16,21 +13,23 @@ use Rattle.serial_model.proofs.runs.StepCases.{IsRunning}
 use Rattle.serial_model.proofs.runs.Stuck.{IsSound}
 use Rattle.serial_model.proofs.tasks.TaskScope.{IsSpawned}
 use Rattle.serial_model.specs.State.{Setup, UnitState, State}
-use Rattle.serial_model.specs.Step.{step, goes_on, does, next_of, next_made, queue_of, around, value_of, after_transaction, commits, fails, take_effects, answered, with_made, ended}
+use Rattle.serial_model.specs.Step.{step, goes_on, next_of, next_made, queue_of, around, value_of, after_transaction, commits, fails, take_effects, answered, with_made, ended}
 use Rattle.serial_model.specs.Task as task
 use Rattle.serial_model.specs.Task.{Around, Result, root_task, transaction}
 use Rattle.serial_model.specs.declared.actor_state.ActorState.{ActorState}
-use Rattle.serial_model.specs.declared.effect.Effect.{Effect}
 use Rattle.serial_model.specs.declared.end.End.TheVariants as end
-use Rattle.serial_model.specs.declared.entry.Entry.TheVariants.{Run, Take}
+use Rattle.serial_model.specs.declared.entry.Entry.TheVariants.{Run}
 use Rattle.serial_model.specs.declared.halt.Halt.TheVariants as halt
 use Rattle.serial_model.specs.declared.request.Request.TheVariants as request
-use Rattle.world_model.specs.Message.{Message, settled, tentative, is_from, passes, definite, settle_one, settle, effects_to}
+use Rattle.actor_mailbox.specs.declared.message.Message.{Message}
+use Rattle.actor_mailbox.specs.Messages.{is_from, passes, definite, settle_one, settle}
+use Rattle.serial_model.specs.Sends.{effects_to}
+use Rattle.world_model.specs.Message.{tentative}
 use Rattle.world_model.specs.StandsFor.{UnitStands, QueueStands, Agrees, ComesTo, IsEnd, IsAttempt, AttemptStands, StandsFor}
-use Rattle.world_model.specs.World.{LiveUnit, AttemptEnd, Attempt, World, with_at, line, sends, kept_sends, held_sends, attempt_sends}
+use Rattle.world_model.specs.World.{LiveUnit, AttemptEnd, Attempt, World, line, sends, kept_sends, held_sends, attempt_sends}
 use Rattle.world_model.specs.rows.Commits.{IsOver, committed, committed_unit, effects_actors, effects_unit, effects_bytes, over_at}
-use Rattle.world_model.proofs.lists.Lists.{Each, each-right, each-map, each-of-map, each-to, one-from, map-append}
-use Rattle.world_model.proofs.lists.Queues.{AreFrom, AreNotFrom, queue-kept, queue-commits, queue-settles-other, queue-others}
+use Rattle.world_model.proofs.lists.Lists.{each-right, each-map, each-of-map, each-to, one-from, map-append}
+use Rattle.world_model.proofs.lists.Queues.{AreNotFrom, queue-kept, queue-commits, queue-settles-other, queue-others}
 use Rattle.world_model.proofs.records.Effects.{TakesEffects, takes-effects, over-as}
 use Rattle.world_model.proofs.records.Frames.{at-here, at-other, IsMoved, unit-moves, taken-again}
 use Rattle.world_model.proofs.records.Names.{maker, no-unit-of-root}

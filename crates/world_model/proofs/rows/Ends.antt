@@ -1,19 +1,17 @@
 -- The entries that end the run.
-use Rattle.std.proofs.Common.{◌≡◌, ◌∙◌, suc, ◌==◌, Bool, true, false, List, [], ◌∷◌, refl, sym, ap, subst}
-use Rattle.std.specs.Prelude.{Option, None, Some, if◌then◌else◌, Contains}
+use Rattle.std.proofs.Common.{◌≡◌, ◌∙◌, suc, ◌==◌, sym, ap}
+use Rattle.std.specs.Prelude.{None, Some, if◌then◌else◌, Contains}
 use Rattle.value_core.specs.Named.{Name}
-use Rattle.value_core.specs.declared.code.Code.TheVariants as code
 use Rattle.value_core.specs.declared.value.Value.TheVariants as value
 use Rattle.value_core.specs.declared.value.Value.{Value}
 use Rattle.core_syntax.specs.WellFormed.{IsWellFormed}
 use Rattle.serial_model.proofs.runs.Stuck.{IsSound}
 use Rattle.serial_model.specs.Ahead.{of_turn, self_of}
 use Rattle.serial_model.specs.State.{Setup, State, new_unit}
-use Rattle.serial_model.specs.Step.{step, value_of, ended, fails, gives, gets, becoming, with_unit, with_made, next_made}
+use Rattle.serial_model.specs.Step.{step, value_of, ended, gives, gets, becoming, with_unit, with_made, next_made}
 use Rattle.serial_model.specs.declared.answer.Answer.TheVariants as answer
 use Rattle.serial_model.specs.declared.end.End.TheVariants as end
 use Rattle.serial_model.specs.declared.end.End.{End}
-use Rattle.serial_model.specs.declared.entry.Entry.TheVariants.{Run, Take}
 use Rattle.serial_model.specs.declared.entry.Entry.{Entry}
 use Rattle.serial_model.specs.declared.halt.Halt.TheVariants as halt
 use Rattle.serial_model.specs.declared.request.Request.TheVariants as request

@@ -1,18 +1,19 @@
 -- Held, where a unit's effect is held: nothing of what the world stands for changes.
-use Rattle.std.proofs.Common.{◌≡◌, ◌∙◌, Bool, true, false, cond, List, [], ◌∷◌, ◌++◌, map, append_assoc, append-nil, refl, sym, ap, ap₂, subst, subst₂}
+use Rattle.std.proofs.Common.{◌≡◌, ◌∙◌, Bool, true, false, cond, List, [], ◌∷◌, ◌++◌, map, append-nil, refl, sym, ap, ap₂, subst}
 use Rattle.std.specs.Prelude.{Option, None, Some}
 use Rattle.value_core.proofs.NamedLaws.{same_name-equal, same_name-itself}
-use Rattle.value_core.specs.Named.{Name, named, same_name, made_by}
+use Rattle.value_core.specs.Named.{Name, named, same_name}
 use Rattle.value_core.specs.Place.{Spot}
 use Rattle.value_core.specs.declared.value.Value.{Value}
 use Rattle.serial_model.specs.State.{Setup, State, UnitState}
 use Rattle.serial_model.specs.Step.{queue_of}
-use Rattle.serial_model.specs.declared.actor_state.ActorState.{ActorState}
 use Rattle.serial_model.specs.declared.request.Request.TheVariants as request
 use Rattle.serial_model.specs.declared.request.Request.{Request}
-use Rattle.world_model.specs.Message.{Message, tentative, request_sends, sends_to, if_to, is_from}
-use Rattle.world_model.specs.StandsFor.{IsBegunTurn, LiveStands, UnitStands, QueueStands, AttemptStands, StandsFor}
-use Rattle.world_model.specs.World.{LiveUnit, is_some, is_empty, put_last, Attempt, World, with_at, line, sends, kept_sends, held_sends, attempt_sends}
+use Rattle.actor_mailbox.specs.declared.message.Message.{Message}
+use Rattle.serial_model.specs.Sends.{request_sends, sends_to}
+use Rattle.world_model.specs.Message.{tentative}
+use Rattle.world_model.specs.StandsFor.{LiveStands, UnitStands, QueueStands, AttemptStands, StandsFor}
+use Rattle.world_model.specs.World.{LiveUnit, is_some, is_empty, put_last, World, sends, kept_sends, held_sends, attempt_sends}
 use Rattle.world_model.specs.rows.Effects.{HoldsMore, mails_held, with_held, held_more}
 use Rattle.world_model.proofs.lists.Lists.{map-append, flat_map-append}
 use Rattle.world_model.proofs.records.Frames.{runs-more, holds-no-attempt, taken-again}

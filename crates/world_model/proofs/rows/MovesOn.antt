@@ -1,41 +1,37 @@
 -- Settled, where a definite unit that holds nothing does its next effect at once, finishes, or ends the run.
-use Rattle.std.proofs.Common.{◌≡◌, ◌∙◌, ℕ, suc, ◌==◌, Bool, true, false, cond, List, [], ◌∷◌, ◌++◌, map, append_assoc, append-nil, refl, sym, ap, ap₂, subst, subst₂}
+use Rattle.std.proofs.Common.{◌≡◌, ◌∙◌, ℕ, suc, ◌==◌, Bool, true, false, cond, List, [], ◌∷◌, ◌++◌, refl, sym, ap, subst}
 use Rattle.std.specs.Option.{option_and_then}
 use Rattle.std.specs.Prelude.{Option, None, Some, if◌then◌else◌}
-use Rattle.value_core.proofs.NamedLaws.{named-with_named, same_name-equal, same_name-itself}
+use Rattle.value_core.proofs.NamedLaws.{named-with_named, same_name-equal}
 use Rattle.value_core.specs.Named.{Name, named, with_named, same_name, made_by}
 use Rattle.value_core.specs.Place.{Spot}
-use Rattle.value_core.specs.declared.code.Code.TheVariants as code
-use Rattle.value_core.specs.declared.code.Code.{Code}
 use Rattle.value_core.specs.declared.value.Value.TheVariants as value
 use Rattle.value_core.specs.declared.value.Value.{Value}
 use Rattle.core_syntax.specs.declared.node_id.NodeId.{NodeId}
 use Rattle.serial_model.proofs.runs.Made.{IsMade}
-use Rattle.serial_model.proofs.runs.StepCases.{IsRunning}
 use Rattle.serial_model.specs.Ahead.{of_turn, self_of}
-use Rattle.serial_model.specs.State.{Setup, Becoming, UnitState, State, new_unit}
-use Rattle.serial_model.specs.Step.{step, goes_on, does, next_of, next_made, with_unit, gets, gets_if_there, answered, with_made, becoming, idle, spawned, sent, queue_of, with_queue, value_of, fails, ended, finishes, released, after_turn, gives}
+use Rattle.serial_model.specs.State.{Setup, UnitState, State, new_unit}
+use Rattle.serial_model.specs.Step.{step, goes_on, next_of, next_made, with_unit, gets_if_there, answered, with_made, becoming, idle, spawned, queue_of, ended, released, after_turn, gives}
 use Rattle.serial_model.specs.declared.actor_state.ActorState.{ActorState}
 use Rattle.serial_model.specs.declared.answer.Answer.TheVariants as answer
 use Rattle.serial_model.specs.declared.end.End.TheVariants as end
 use Rattle.serial_model.specs.declared.end.End.{End}
-use Rattle.serial_model.specs.declared.entry.Entry.TheVariants.{Run, Take}
+use Rattle.serial_model.specs.declared.entry.Entry.TheVariants.{Run}
 use Rattle.serial_model.specs.declared.entry.Entry.{Entry}
 use Rattle.serial_model.specs.declared.halt.Halt.TheVariants as halt
 use Rattle.serial_model.specs.declared.halt.Halt.{Halt}
 use Rattle.serial_model.specs.declared.request.Request.TheVariants as request
 use Rattle.serial_model.specs.declared.request.Request.{Request}
-use Rattle.world_model.specs.Message.{Message, settled, tentative, from, is_from}
+use Rattle.actor_mailbox.specs.declared.message.Message.{Message}
 use Rattle.world_model.specs.StandsFor.{UnitStands, QueueStands, AttemptStands, LiveStands, HasBegun, TakenStands, StandsFor}
-use Rattle.world_model.specs.World.{LiveUnit, Attempt, World, with_at, line, sends, held_sends, attempt_sends, still, put_last}
+use Rattle.world_model.specs.World.{LiveUnit, Attempt, World, with_at, line, held_sends, attempt_sends, still}
 use Rattle.world_model.specs.rows.Effects.{Stands, moved_on, new_live}
 use Rattle.world_model.specs.rows.Endings.{ended_by}
-use Rattle.world_model.proofs.lists.Lists.{map-append, filter-append, filter-none}
 use Rattle.world_model.proofs.records.Elsewhere.{with-bytes, with-ref, with-actor, with-child}
-use Rattle.world_model.proofs.records.Frames.{at-here, at-other, IsMoved, unit-moves, taken-again}
+use Rattle.world_model.proofs.records.Frames.{at-other, IsMoved, unit-moves, taken-again}
 use Rattle.world_model.proofs.records.Names.{new-actor, new-unit}
 use Rattle.world_model.proofs.records.SettledUnits.{settled-unit, holds-nothing}
-use Rattle.world_model.proofs.records.Steps.{Settles, step-runs, queue-set}
+use Rattle.world_model.proofs.records.Steps.{Settles, step-runs}
 
 abbrev is_dosync : Request → Bool
 is_dosync (request.Dosync body values) = true

@@ -1,14 +1,14 @@
 -- finish: what is not settled goes, and the world stands for what it stood for.
-use Rattle.std.proofs.Common.{◌≡◌, ◌∙◌, Bool, true, false, cond, List, [], ◌∷◌, ◌++◌, refl, sym, ap, subst, subst₂}
+use Rattle.std.proofs.Common.{◌≡◌, ◌∙◌, true, [], ◌++◌, refl, sym, ap, subst}
 use Rattle.std.specs.Prelude.{Option, None, Some}
 use Rattle.value_core.specs.Named.{Name, named}
 use Rattle.serial_model.specs.State.{Setup, UnitState, State}
 use Rattle.serial_model.specs.Step.{queue_of}
-use Rattle.world_model.specs.Message.{Message, passes, without, is_tentative}
+use Rattle.actor_mailbox.specs.Messages.{without}
 use Rattle.world_model.specs.StandsFor.{LiveStands, UnitStands, QueueStands, StandsFor}
-use Rattle.world_model.specs.World.{LiveUnit, Attempt, World, line, sends, held_sends}
+use Rattle.world_model.specs.World.{LiveUnit, World, line, sends, held_sends}
 use Rattle.world_model.specs.rows.Undone.{reset, reset_live, reset_unit}
-use Rattle.world_model.proofs.lists.Lists.{Each, without-all}
+use Rattle.world_model.proofs.lists.Lists.{without-all}
 use Rattle.world_model.proofs.lists.Queues.{queue-drops}
 use Rattle.world_model.proofs.records.Sends.{sends-tentative}
 

@@ -1,19 +1,19 @@
 -- Settled, where a definite unit that holds nothing sends.
-use Rattle.std.proofs.Common.{◌≡◌, ◌∙◌, Bool, true, false, cond, List, [], ◌∷◌, ◌++◌, append_assoc, refl, sym, ap, ap₂, subst}
-use Rattle.std.specs.Prelude.{Option, None, Some}
-use Rattle.value_core.proofs.NamedLaws.{same_name-equal, same_name-itself}
-use Rattle.value_core.specs.Named.{Name, named, same_name}
+use Rattle.std.proofs.Common.{◌≡◌, ◌∙◌, true, cond, List, [], ◌∷◌, ◌++◌, append_assoc, refl, sym, ap, ap₂, subst}
+use Rattle.std.specs.Prelude.{None, Some}
+use Rattle.value_core.proofs.NamedLaws.{same_name-itself}
+use Rattle.value_core.specs.Named.{Name, same_name}
 use Rattle.value_core.specs.Place.{Spot}
 use Rattle.value_core.specs.declared.value.Value.TheVariants as value
 use Rattle.value_core.specs.declared.value.Value.{Value}
 use Rattle.serial_model.specs.State.{Setup, State}
-use Rattle.serial_model.specs.Step.{next_of, with_unit, answered, sent, queue_of, with_queue}
-use Rattle.serial_model.specs.declared.entry.Entry.TheVariants.{Run, Take}
+use Rattle.serial_model.specs.Step.{next_of, with_unit, answered, sent, queue_of}
+use Rattle.serial_model.specs.declared.entry.Entry.TheVariants.{Run}
 use Rattle.serial_model.specs.declared.halt.Halt.TheVariants as halt
 use Rattle.serial_model.specs.declared.request.Request.TheVariants as request
-use Rattle.world_model.specs.Message.{Message, settled}
+use Rattle.world_model.specs.Message.{settled}
 use Rattle.world_model.specs.StandsFor.{QueueStands, StandsFor}
-use Rattle.world_model.specs.World.{LiveUnit, World, with_at, line, sends, held_sends, attempt_sends, put_last}
+use Rattle.world_model.specs.World.{LiveUnit, World, line, sends, held_sends, attempt_sends, put_last}
 use Rattle.world_model.specs.rows.Effects.{Stands, moved_on}
 use Rattle.world_model.proofs.lists.Queues.{queue-sends, queue-others}
 use Rattle.world_model.proofs.records.Steps.{Settles, queue-set}

@@ -1,8 +1,8 @@
 -- Settled, where it is the first held effect of a definite turn.
 use Rattle.std.proofs.Common.{◌≡◌, ◌∙◌, ℕ, Bool, true, false, cond, List, [], ◌∷◌, ◌++◌, map, append_assoc, refl, sym, ap, ap₂, subst, subst₂}
-use Rattle.std.specs.Prelude.{◌||◌, Option, None, Some}
+use Rattle.std.specs.Prelude.{◌||◌, Some}
 use Rattle.value_core.proofs.NamedLaws.{named-with_named, same_name-equal, same_name-itself}
-use Rattle.value_core.specs.Named.{Name, named, with_named, same_name, made_by}
+use Rattle.value_core.specs.Named.{Name, named, with_named, same_name}
 use Rattle.value_core.specs.Place.{Spot}
 use Rattle.value_core.specs.declared.value.Value.TheVariants as value
 use Rattle.value_core.specs.declared.value.Value.{Value}
@@ -10,20 +10,23 @@ use Rattle.serial_model.proofs.runs.Made.{IsMade}
 use Rattle.serial_model.specs.State.{Setup, UnitState, State, Queues}
 use Rattle.serial_model.specs.Step.{step, goes_on, does, queue_of, with_queue, with_unit, answered}
 use Rattle.serial_model.specs.declared.actor_state.ActorState.{ActorState}
-use Rattle.serial_model.specs.declared.entry.Entry.TheVariants.{Run, Take}
+use Rattle.serial_model.specs.declared.entry.Entry.TheVariants.{Run}
 use Rattle.serial_model.specs.declared.entry.Entry.{Entry}
 use Rattle.serial_model.specs.declared.request.Request.TheVariants as request
 use Rattle.serial_model.specs.declared.request.Request.{Request}
 use Rattle.world_model.specs.Ahead.{IsHeld, RunsAhead}
-use Rattle.world_model.specs.Message.{Message, settled, tentative, is_from, passes, definite, settle_first, request_sends, sends_to}
-use Rattle.world_model.specs.StandsFor.{LiveStands, UnitStands, QueueStands, AttemptStands, StandsFor}
-use Rattle.world_model.specs.World.{LiveUnit, Attempt, World, with_at, line, sends, held_sends, attempt_sends}
+use Rattle.actor_mailbox.specs.declared.message.Message.{Message}
+use Rattle.actor_mailbox.specs.Messages.{is_from, passes, definite}
+use Rattle.serial_model.specs.Sends.{request_sends, sends_to}
+use Rattle.world_model.specs.Message.{settled, tentative, settle_or_put}
+use Rattle.world_model.specs.StandsFor.{UnitStands, QueueStands, AttemptStands, StandsFor}
+use Rattle.world_model.specs.World.{LiveUnit, World, with_at, line, sends, held_sends, attempt_sends}
 use Rattle.world_model.specs.rows.Effects.{SettlesHeld, held_rest, has_put, settled_taken, settled_mail, print_settled, send_settled}
 use Rattle.world_model.proofs.lists.Lists.{Each, each-to, map-append}
 use Rattle.world_model.proofs.lists.Queues.{queue-settles-first, queue-settles-first-other}
 use Rattle.world_model.proofs.records.Frames.{at-here, at-other, IsMoved, unit-moves, taken-again}
 use Rattle.world_model.proofs.records.Sends.{own-sends}
-use Rattle.world_model.proofs.records.SettledUnits.{IsSettledUnit, settled-unit}
+use Rattle.world_model.proofs.records.SettledUnits.{settled-unit}
 use Rattle.world_model.proofs.records.Steps.{Settles, step-runs, queue-set}
 use Rattle.world_model.proofs.rows.SettlesTake.{attempt-same}
 
@@ -108,18 +111,18 @@ settles-print setup w s u x text rest after st row =
 
 -- ---- a held send
 -- the line after the first message that depends on the turn is settled in its place
-pub line-first : (u : Name) (l : Message) (taken mails : List Message) → settled_taken u l taken ++ settled_mail u l taken mails ≡ settle_first (same_name u) l (taken ++ mails)
+pub line-first : (u : Name) (l : Message) (taken mails : List Message) → settled_taken u l taken ++ settled_mail u l taken mails ≡ settle_or_put (same_name u) l (taken ++ mails)
 line-first u l [] mails = refl
 line-first u l (m ∷ ms) mails = on (passes (same_name u) m.depends) refl (line-first u l ms mails)
   where
-    on : (p : Bool) → passes (same_name u) m.depends ≡ p → settled_taken u l ms ++ settled_mail u l ms mails ≡ settle_first (same_name u) l (ms ++ mails)
-        → cond (p || has_put u ms) (cond p (definite m ∷ ms) (m ∷ settle_first (same_name u) l ms)) (m ∷ ms) ++ cond (p || has_put u ms) mails (settle_first (same_name u) l mails)
-        ≡ cond p (definite m ∷ (ms ++ mails)) (m ∷ settle_first (same_name u) l (ms ++ mails))
+    on : (p : Bool) → passes (same_name u) m.depends ≡ p → settled_taken u l ms ++ settled_mail u l ms mails ≡ settle_or_put (same_name u) l (ms ++ mails)
+        → cond (p || has_put u ms) (cond p (definite m ∷ ms) (m ∷ settle_or_put (same_name u) l ms)) (m ∷ ms) ++ cond (p || has_put u ms) mails (settle_or_put (same_name u) l mails)
+        ≡ cond p (definite m ∷ (ms ++ mails)) (m ∷ settle_or_put (same_name u) l (ms ++ mails))
     on true e rest = refl
     on false e rest = within (has_put u ms) refl rest
       where
-        within : (h : Bool) → has_put u ms ≡ h → cond h (settle_first (same_name u) l ms) ms ++ cond h mails (settle_first (same_name u) l mails) ≡ settle_first (same_name u) l (ms ++ mails)
-            → cond h (m ∷ settle_first (same_name u) l ms) (m ∷ ms) ++ cond h mails (settle_first (same_name u) l mails) ≡ m ∷ settle_first (same_name u) l (ms ++ mails)
+        within : (h : Bool) → has_put u ms ≡ h → cond h (settle_or_put (same_name u) l ms) ms ++ cond h mails (settle_or_put (same_name u) l mails) ≡ settle_or_put (same_name u) l (ms ++ mails)
+            → cond h (m ∷ settle_or_put (same_name u) l ms) (m ∷ ms) ++ cond h mails (settle_or_put (same_name u) l mails) ≡ m ∷ settle_or_put (same_name u) l (ms ++ mails)
         within true he rest = ap (λ (zs : List Message). m ∷ zs) rest
         within false he rest = ap (λ (zs : List Message). m ∷ zs) rest
 
@@ -141,7 +144,7 @@ module _ (setup : Setup) (w : World) (s : State) (u : Name) (x : LiveUnit) (to :
   owners = own-sends setup w s st made to u x row.there
 
   -- at the receiver
-  here : line w2 to ≡ settle_first (same_name u) (settled u args) (line w to)
+  here : line w2 to ≡ settle_or_put (same_name u) (settled u args) (line w to)
   here = ap₂ (λ t l. t ++ l) (at-here w.taken to (settled_taken u (settled u args) (w.taken to))) (at-here w.mails to (settled_mail u (settled u args) (w.taken to) (w.mails to))) ∙ line-first u (settled u args) (w.taken to) (w.mails to)
 
   elsewhere : (b : Name) → same_name b to ≡ false → line w b ≡ line w2 b

@@ -1,31 +1,30 @@
 -- Settled, where it is a held effect that is neither a print nor a send.
-use Rattle.std.proofs.Common.{◌≡◌, ◌∙◌, ℕ, suc, ◌==◌, Bool, true, false, cond, List, [], ◌∷◌, ◌++◌, refl, sym, ap, subst}
+use Rattle.std.proofs.Common.{◌≡◌, ◌∙◌, ℕ, suc, ◌==◌, Bool, true, false, List, [], ◌∷◌, ◌++◌, refl, sym, ap}
 use Rattle.std.specs.Prelude.{Option, None, Some, if◌then◌else◌}
-use Rattle.value_core.proofs.NamedLaws.{same_name-equal, named-with_named}
-use Rattle.value_core.specs.Named.{Name, named, with_named, same_name, made_by}
+use Rattle.value_core.proofs.NamedLaws.{same_name-equal}
+use Rattle.value_core.specs.Named.{Name, with_named, same_name}
 use Rattle.value_core.specs.Place.{Spot}
-use Rattle.value_core.specs.declared.code.Code.TheVariants as code
 use Rattle.value_core.specs.declared.value.Value.TheVariants as value
 use Rattle.value_core.specs.declared.value.Value.{Value}
 use Rattle.core_syntax.specs.declared.node_id.NodeId.{NodeId}
 use Rattle.serial_model.proofs.runs.Made.{IsMade}
 use Rattle.serial_model.specs.Ahead.{of_turn, self_of}
 use Rattle.serial_model.specs.State.{Setup, UnitState, State, new_unit}
-use Rattle.serial_model.specs.Step.{does, gets, with_unit, answered, with_made, next_made, becoming, idle, spawned, fails, gives, ended}
+use Rattle.serial_model.specs.Step.{with_unit, answered, with_made, next_made, becoming, idle, spawned, gives, ended}
 use Rattle.serial_model.specs.declared.answer.Answer.TheVariants as answer
 use Rattle.serial_model.specs.declared.end.End.TheVariants as end
-use Rattle.serial_model.specs.declared.entry.Entry.TheVariants.{Run, Take}
+use Rattle.serial_model.specs.declared.entry.Entry.TheVariants.{Run}
 use Rattle.serial_model.specs.declared.request.Request.TheVariants as request
 use Rattle.serial_model.specs.declared.request.Request.{Request}
-use Rattle.world_model.specs.Ahead.{after_answer, ahead}
+use Rattle.world_model.specs.Ahead.{after_answer}
 use Rattle.world_model.specs.StandsFor.{StandsFor}
 use Rattle.world_model.specs.World.{LiveUnit, World, with_at}
-use Rattle.world_model.specs.rows.Effects.{SettlesHeld, held_rest, effect_settled, ref_settled, spawn_settled, fork_settled, new_live}
+use Rattle.world_model.specs.rows.Effects.{SettlesHeld, effect_settled, ref_settled, spawn_settled, fork_settled, new_live}
 use Rattle.world_model.proofs.records.Elsewhere.{with-ref, with-actor, with-child}
 use Rattle.world_model.proofs.records.Frames.{at-other}
 use Rattle.world_model.proofs.records.Names.{new-actor, new-unit}
 use Rattle.world_model.proofs.records.Steps.{Settles}
-use Rattle.world_model.proofs.rows.SettlesHeld.{IsNext, is-next, answers, settles-steps}
+use Rattle.world_model.proofs.rows.SettlesHeld.{is-next, answers, settles-steps}
 
 some_same : {X : Type 0} (a b : X) → Some a ≡ Some b → a ≡ b
 some_same a b e = cc

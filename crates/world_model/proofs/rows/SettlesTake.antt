@@ -1,21 +1,19 @@
 -- Settled, where it is a Take.
-use Rattle.std.proofs.Common.{◌≡◌, ◌∙◌, ℕ, suc, ◌==◌, Bool, true, false, cond, List, [], ◌∷◌, ◌++◌, refl, sym, ap, ap₂, subst, subst₂}
+use Rattle.std.proofs.Common.{◌≡◌, ◌∙◌, suc, ◌==◌, Bool, true, false, cond, [], ◌∷◌, ◌++◌, refl, sym, ap, ap₂, subst, subst₂}
 use Rattle.std.specs.List.{slice_get}
 use Rattle.std.specs.Prelude.{Option, None, Some}
 use Rattle.value_core.proofs.NamedLaws.{named-with_named, same_name-equal, same_name-itself}
-use Rattle.value_core.specs.Named.{Name, named, with_named, same_name, made_by}
-use Rattle.value_core.specs.declared.value.Value.{Value}
-use Rattle.core_syntax.specs.declared.behaviour.Behaviour.{Behaviour}
+use Rattle.value_core.specs.Named.{Name, named, same_name, made_by}
 use Rattle.serial_model.proofs.runs.StepCases.{IsTaking, begun}
 use Rattle.serial_model.specs.State.{Setup, UnitState, State, new_unit}
-use Rattle.serial_model.specs.Step.{step, ended, queue_of, with_queue}
+use Rattle.serial_model.specs.Step.{step, ended, queue_of}
 use Rattle.serial_model.specs.declared.actor_state.ActorState.{ActorState}
 use Rattle.serial_model.specs.declared.end.End.TheVariants as end
-use Rattle.serial_model.specs.declared.entry.Entry.TheVariants.{Run, Take}
+use Rattle.serial_model.specs.declared.entry.Entry.TheVariants.{Take}
 use Rattle.world_model.specs.Ahead.{RunsAhead}
-use Rattle.world_model.specs.Message.{Message, is_from}
+use Rattle.actor_mailbox.specs.declared.message.Message.{Message}
 use Rattle.world_model.specs.StandsFor.{IsBegunTurn, LiveStands, UnitStands, QueueStands, IsAttempt, AttemptStands, TakenStands, StandsFor}
-use Rattle.world_model.specs.World.{LiveUnit, Attempt, World, with_at, line, sends, held_sends, attempt_sends}
+use Rattle.world_model.specs.World.{LiveUnit, Attempt, World, line, sends, held_sends, attempt_sends}
 use Rattle.world_model.specs.rows.Turns.{SettlesTake, take_settled, begun_turn, busy_with}
 use Rattle.world_model.proofs.lists.Queues.{IsTaken, queue-takes, queue-takes-other}
 use Rattle.world_model.proofs.records.Frames.{at-here, at-other, IsMoved, unit-moves, taken-again}

@@ -1,5 +1,5 @@
 -- Settled, where it is a Take of a settled message at an idle actor's front: a turn is begun, and its Take settles.
-use Rattle.std.proofs.Common.{◌≡◌, ◌∙◌, ℕ, suc, ◌==◌, Bool, true, false, cond, List, [], ◌∷◌, ◌++◌, refl, sym, ap, subst₂}
+use Rattle.std.proofs.Common.{◌≡◌, ◌∙◌, ◌==◌, Bool, true, false, cond, List, [], ◌∷◌, refl, sym, ap, subst₂}
 use Rattle.std.specs.Prelude.{Option, None, Some}
 use Rattle.value_core.proofs.NamedLaws.{same_name-equal}
 use Rattle.value_core.specs.Named.{Name, same_name, made_by}
@@ -9,11 +9,11 @@ use Rattle.serial_model.specs.State.{Setup, State}
 use Rattle.serial_model.specs.Step.{step, ended}
 use Rattle.serial_model.specs.declared.actor_state.ActorState.{ActorState}
 use Rattle.serial_model.specs.declared.end.End.TheVariants as end
-use Rattle.serial_model.specs.declared.entry.Entry.TheVariants.{Run, Take}
-use Rattle.world_model.specs.Message.{Message}
+use Rattle.serial_model.specs.declared.entry.Entry.TheVariants.{Take}
+use Rattle.actor_mailbox.specs.declared.message.Message.{Message}
 use Rattle.world_model.specs.StandsFor.{StandsFor}
 use Rattle.world_model.specs.World.{LiveUnit, World, with_at}
-use Rattle.world_model.specs.rows.Turns.{BeginsAhead, live_turn, begun_ahead, take_settled, taken_now, begun_turn, busy_with}
+use Rattle.world_model.specs.rows.Turns.{BeginsAhead, live_turn, begun_ahead, taken_now, begun_turn}
 use Rattle.world_model.proofs.records.Frames.{at-here}
 use Rattle.world_model.proofs.records.Steps.{Settles}
 use Rattle.world_model.proofs.rows.BeginsAhead.{begins-ahead}

@@ -1,13 +1,15 @@
 -- Aborted: what depends on an attempt is gone, and the world stands for what it stood for.
 use Rattle.std.proofs.Common.{◌≡◌, ◌∙◌, Bool, true, false, cond, List, [], ◌∷◌, ◌++◌, map, refl, sym, ap, ap₂, subst, subst₂}
-use Rattle.std.specs.Prelude.{Option, None, Some}
+use Rattle.std.specs.Prelude.{Option, None, Some, not}
 use Rattle.value_core.specs.Named.{Name, named, made_by}
-use Rattle.value_core.specs.declared.value.Value.{Value}
 use Rattle.serial_model.specs.State.{Setup, UnitState, State}
 use Rattle.serial_model.specs.Step.{queue_of}
 use Rattle.serial_model.specs.declared.actor_state.ActorState.{ActorState}
-use Rattle.world_model.specs.Message.{Message, tentative, passes, stays, without, sends_to, effects_to}
-use Rattle.world_model.specs.StandsFor.{IsBegunTurn, LiveStands, UnitStands, QueueStands, AttemptStands, HasBegun, TakenStands, StandsFor}
+use Rattle.actor_mailbox.specs.declared.message.Message.{Message}
+use Rattle.actor_mailbox.specs.Messages.{passes, stays, without}
+use Rattle.serial_model.specs.Sends.{sends_to, effects_to}
+use Rattle.world_model.specs.Message.{tentative}
+use Rattle.world_model.specs.StandsFor.{LiveStands, UnitStands, QueueStands, AttemptStands, TakenStands, StandsFor}
 use Rattle.world_model.specs.World.{LiveUnit, Attempt, World, line, sends, held_sends, attempt_sends}
 use Rattle.world_model.specs.rows.Undone.{unless_gone, undone}
 use Rattle.world_model.proofs.lists.Lists.{Each, each-map, filter-append, without-others, without-all}
@@ -101,7 +103,7 @@ module _ (setup : Setup) (w : World) (s : State) (gone : Name → Bool) (st : St
               at None b = let both : m ∷ ms ≡ b.message ∷ [] = sym is ∙ b.took in cc
               at (Some other) stands = absurd stands
 
-      on : (p : Bool) → passes gone m.depends ≡ p → TakenStands w2.actors w2.units a (cond (cond p false true) (m ∷ without gone ms) (without gone ms))
+      on : (p : Bool) → passes gone m.depends ≡ p → TakenStands w2.actors w2.units a (cond (not p) (m ∷ without gone ms) (without gone ms))
       on true e = rw only tt
       on false e = record {
         actor = t.actor;

@@ -9,7 +9,8 @@ use Rattle.serial_model.specs.declared.effect.What.TheVariants as what
 use Rattle.serial_model.specs.declared.effect.What.{What}
 use Rattle.serial_model.specs.declared.halt.Halt.TheVariants as halt
 use Rattle.serial_model.specs.declared.request.Request.TheVariants as request
-use Rattle.world_model.specs.Message.{Message, tentative}
+use Rattle.actor_mailbox.specs.declared.message.Message.{Message}
+use Rattle.world_model.specs.Message.{tentative}
 use Rattle.world_model.specs.StandsFor.{IsEnd}
 use Rattle.world_model.specs.World.{Attempt, AttemptEnd, LiveUnit, World, put_or_kept, with_at}
 

@@ -10,7 +10,7 @@ use Rattle.serial_model.specs.declared.effect.Effect.{Effect}
 use Rattle.serial_model.specs.declared.effect.What.TheVariants as what
 use Rattle.serial_model.specs.declared.effect.What.{What}
 use Rattle.serial_model.specs.declared.entry.Entry.TheVariants.{Run}
-use Rattle.world_model.specs.Message.{settle}
+use Rattle.actor_mailbox.specs.Messages.{settle}
 use Rattle.world_model.specs.World.{Attempt, AttemptEnd, LiveUnit, World, kept_sends, with_at}
 
 -- what the effects of a commit do to the actors

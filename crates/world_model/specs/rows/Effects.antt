@@ -11,7 +11,9 @@ use Rattle.serial_model.specs.declared.entry.Entry.TheVariants.{Run}
 use Rattle.serial_model.specs.declared.request.Request.TheVariants as request
 use Rattle.serial_model.specs.declared.request.Request.{Request}
 use Rattle.world_model.specs.Ahead.{IsHeld, ahead}
-use Rattle.world_model.specs.Message.{Message, passes, settle_first, settled, tentative}
+use Rattle.actor_mailbox.specs.declared.message.Message.{Message}
+use Rattle.actor_mailbox.specs.Messages.{passes}
+use Rattle.world_model.specs.Message.{settle_or_put, settled, tentative}
 use Rattle.world_model.specs.World.{LiveUnit, World, is_ahead, put_or_kept, still, with_at}
 
 -- a turn that runs ahead asks for an effect that is held
@@ -60,11 +62,11 @@ has_put u ms = list_any (λ m. passes (same_name u) m.depends) ms
 -- A held send settles in its place: the first message that depends on its turn becomes definite, with the turn that took it or
 -- in the mailbox. Where there is none it is appended.
 abbrev pub settled_taken : Name → Message → List Message → List Message
-settled_taken u m ms = cond (has_put u ms) (settle_first (same_name u) m ms) ms
+settled_taken u m ms = cond (has_put u ms) (settle_or_put (same_name u) m ms) ms
 
 -- the mailbox, where these messages were taken
 abbrev pub settled_mail : Name → Message → List Message → List Message → List Message
-settled_mail u m taken ms = cond (has_put u taken) ms (settle_first (same_name u) m ms)
+settled_mail u m taken ms = cond (has_put u taken) ms (settle_or_put (same_name u) m ms)
 
 -- Settled: a send
 abbrev pub send_settled : World → Name → LiveUnit → List Request → UnitState → Name → List Value → World

@@ -18,7 +18,7 @@ use Rattle.serial_model.specs.declared.entry.Entry.{Entry}
 use Rattle.serial_model.specs.declared.halt.Halt.TheVariants as halt
 use Rattle.serial_model.specs.declared.request.Request.TheVariants as request
 use Rattle.serial_model.specs.declared.request.Request.{Request}
-use Rattle.world_model.specs.Message.{Message}
+use Rattle.actor_mailbox.specs.declared.message.Message.{Message}
 use Rattle.world_model.specs.World.{Attempt, AttemptEnd, LiveUnit, World}
 use Rattle.world_model.specs.rows.Commits.{IsOver}
 use Rattle.world_model.specs.rows.Effects.{SettlesHeld, Stands}

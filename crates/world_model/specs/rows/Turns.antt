@@ -6,7 +6,7 @@ use Rattle.core_syntax.specs.declared.behaviour.Behaviour.{Behaviour}
 use Rattle.serial_model.specs.State.{Setup, new_unit}
 use Rattle.serial_model.specs.declared.actor_state.ActorState.{ActorState}
 use Rattle.serial_model.specs.declared.entry.Entry.TheVariants.{Take}
-use Rattle.world_model.specs.Message.{Message}
+use Rattle.actor_mailbox.specs.declared.message.Message.{Message}
 use Rattle.world_model.specs.World.{LiveUnit, World, with_at}
 
 -- an idle actor with a message at its front, and no turn whose Take is held

@@ -1,9 +1,8 @@
 -- The rows that undo.
-use Rattle.std.specs.Prelude.{Bool, None, Option, Some, [], cond, false, true, ◌++◌, ◌∷◌, ◌≡◌}
-use Rattle.value_core.specs.Named.{Name, made_by}
-use Rattle.serial_model.specs.declared.actor_state.ActorState.{ActorState}
+use Rattle.std.specs.Prelude.{Bool, None, Option, Some, [], cond, true, ◌++◌, ◌≡◌}
+use Rattle.value_core.specs.Named.{Name}
 use Rattle.world_model.specs.Dependence.{DependsOn}
-use Rattle.world_model.specs.Message.{Message, passes, without}
+use Rattle.actor_mailbox.specs.Messages.{without}
 use Rattle.world_model.specs.World.{Attempt, LiveUnit, World, still}
 
 -- an attempt that has not gone
