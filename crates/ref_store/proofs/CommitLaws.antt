@@ -11,6 +11,7 @@ use Rattle.value_core.specs.Name.{after_cmp}
 use Rattle.value_core.specs.Named.{Name, Named, named, same_name, Rises}
 use Rattle.value_core.specs.Roomy.{Roomy}
 use Rattle.value_core.proofs.NamedLaws.{IsBelow, after_cmp-itself, named-first, named-other, rises-first, rises-rest}
+use Rattle.value_core.proofs.Tests.{both, first_of, second_of}
 use Rattle.ref_store.specs.declared.version.Version.{Version}
 use Rattle.ref_store.specs.Places.{room_in, versions_in, AreAdded, IsAdded, IsReady}
 use Rattle.ref_store.specs.Store.{committed, version_of, versions_of, with_version, HasRoom, HasRoomFor, IsAbove}
@@ -18,18 +19,6 @@ use Rattle.ref_store.proofs.WriteLaws.{rise_at}
 
 abbrev Places : Type 0
 Places = Named (Roomy Version)
-
-both : (a b : Bool) → T a → T b → T (a && b)
-both true b p q = q
-both false b p q = p
-
-first_of : (a b : Bool) → T (a && b) → T a
-first_of true b t = tt
-first_of false b t = absurd t
-
-second_of : (a b : Bool) → T (a && b) → T b
-second_of true b t = t
-second_of false b t = absurd t
 
 -- ---- a list and its last
 all_front : {A : Type 0} (P : A → Type 0) (xs : List A) (y : A) → All P (xs ++ y ∷ []) → All P xs

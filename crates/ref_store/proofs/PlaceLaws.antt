@@ -12,8 +12,8 @@ use Rattle.value_core.specs.Named.{Name, Named, named, with_named, each_as, same
 use Rattle.value_core.specs.Placed.{filled, if_filled, HasPlace, Placed}
 use Rattle.value_core.specs.Roomy.{Roomy}
 use Rattle.value_core.proofs.NamedLaws.{IsBelow, named-here, named-with_named, rises-first, rises-rest, rises-with_named, same_name-equal}
-use Rattle.value_core.proofs.NamedViews.{each_as-with_named, named-each_as, view_found, view_none}
-use Rattle.value_core.proofs.PlacedLaws.{filled_shows, named_filled, prepared_shows}
+use Rattle.value_core.proofs.NamedViews.{each_as-with_named, named-each_as, rises_each, view_found, view_none}
+use Rattle.value_core.proofs.PlacedLaws.{filled_shows, named_filled, prepared_shows, rises_filled}
 use Rattle.ref_store.specs.declared.version.Version.{Version}
 use Rattle.ref_store.specs.Pruned.{IsPruned}
 use Rattle.ref_store.specs.Places.{if_any, room_in, versions_in, IsAdded, IsPrunedPlace, IsReserved}
@@ -26,47 +26,7 @@ Places = Named (Roomy Version)
 abbrev items_shown : Roomy Version → Option (List Version)
 items_shown place = if_any place.items
 
-both : (a b : Bool) → T a → T b → T (a && b)
-both true b p q = q
-both false b p q = p
-
-first_of : (a b : Bool) → T (a && b) → T a
-first_of true b t = tt
-first_of false b t = absurd t
-
-second_of : (a b : Bool) → T (a && b) → T b
-second_of true b t = t
-second_of false b t = absurd t
-
--- ---- the names of a view rise
-below_each : {X Y : Type 0} (f : X → Y) (k : Name) (es : Named X) → IsBelow k es → IsBelow k (each_as f es)
-below_each f k [] below = tt
-below_each f k (e ∷ es) below =
-    both (is_lt (after_cmp k e.0)) (below_all after_cmp k (each_as f es)) (first_of (is_lt (after_cmp k e.0)) (below_all after_cmp k es) below)
-    (below_each f k es (second_of (is_lt (after_cmp k e.0)) (below_all after_cmp k es) below))
-
-pub rises_each : {X Y : Type 0} (f : X → Y) (es : Named X) → Rises es → Rises (each_as f es)
-rises_each f [] rises = tt
-rises_each f (e ∷ es) rises =
-    both (below_all after_cmp e.0 (each_as f es)) (is_sorted after_cmp (each_as f es)) (below_each f e.0 es (rises-first e es rises)) (rises_each f es (rises-rest e es rises))
-
-below_filled : {X : Type 0} (k : Name) (all : Placed X) → IsBelow k all → IsBelow k (filled all)
-below_filled k [] below = tt
-below_filled {X} k (e ∷ es) below =
-    on e.1 (first_of (is_lt (after_cmp k e.0)) (below_all after_cmp k es) below) (below_filled k es (second_of (is_lt (after_cmp k e.0)) (below_all after_cmp k es) below))
-  where
-    on : (o : Option X) → T (is_lt (after_cmp k e.0)) → IsBelow k (filled es) → IsBelow k (if_filled o e.0 (filled es))
-    on None less rest = rest
-    on (Some x) less rest = both (is_lt (after_cmp k e.0)) (below_all after_cmp k (filled es)) less rest
-
-pub rises_filled : {X : Type 0} (all : Placed X) → Rises all → Rises (filled all)
-rises_filled [] rises = tt
-rises_filled {X} (e ∷ es) rises = on e.1 (rises_filled es (rises-rest e es rises)) (below_filled e.0 es (rises-first e es rises))
-  where
-    on : (o : Option X) → Rises (filled es) → IsBelow e.0 (filled es) → Rises (if_filled o e.0 (filled es))
-    on None rest below = rest
-    on (Some x) rest below = both (below_all after_cmp e.0 (filled es)) (is_sorted after_cmp (filled es)) below rest
-
+-- ---- the names of what is shown rise
 pub rises_shown : (places : Places) → Rises places → Rises (versions_in places)
 rises_shown places rises = rises_filled (each_as items_shown places) (rises_each items_shown places rises)
 

@@ -13,31 +13,11 @@ use Rattle.value_core.specs.NameOrder.{after_cmp_total}
 use Rattle.value_core.specs.Named.{Name, Named, named, with_named, Rises}
 use Rattle.value_core.proofs.Names.{after_cmp-IsAntisymmetric}
 use Rattle.value_core.proofs.NamedLaws.{IsBelow, rises-first, rises-rest}
+use Rattle.value_core.proofs.Tests.{first_of, is_less, rising, second_of}
 use Rattle.ref_store.specs.Writes.{IsAfterFirst, IsBeforeRest, IsGapFor, IsPlaceOf}
-
-less : (o : Ordering) → T (is_lt o) → o ≡ Less
-less Less p = refl
-less Equal p = absurd p
-less Greater p = absurd p
-
-first : (a b : Bool) → T (a && b) → T a
-first true b p = tt
-first false b p = p
-
-second : (a b : Bool) → T (a && b) → T b
-second true b p = p
-second false b p = absurd p
 
 turned : (a b : Name) (o : Ordering) → after_cmp a b ≡ o → after_cmp b a ≡ ordering_reverse o
 turned a b o is = after_cmp_total.antisymm b a ∙ ap ordering_reverse is
-
--- where an answer rises to the next
-rising : (a b : Ordering) → (b ≡ Less → a ≡ Less) → (b ≡ Equal → a ≡ Less) → ordering_index a ≤ ordering_index b
-rising a Less below equal = rw (below refl) (omega arith)
-rising a Equal below equal = rw (equal refl) (omega arith)
-rising Less Greater below equal = omega arith
-rising Equal Greater below equal = omega arith
-rising Greater Greater below equal = omega arith
 
 module _ {X : Type 0} where
   tail_after : (e : Name × X) (es : Named X) (k : Name) (i : ℕ) → IsAfterFirst (e ∷ es) k (suc i) → IsAfterFirst es k i
@@ -94,8 +74,8 @@ module _ {X : Type 0} where
   -- ---- rising names, place by place
   below_at : (k : Name) (es : Named X) → IsBelow k es → (j : ℕ) (d : Name × X) → j < length es → after_cmp k (get_or es j d).0 ≡ Less
   below_at k [] below j d lt = absurd (omega arith)
-  below_at k (e ∷ es) below zero d lt = less (after_cmp k e.0) (first (is_lt (after_cmp k e.0)) (below_all after_cmp k es) below)
-  below_at k (e ∷ es) below (suc j) d lt = below_at k es (second (is_lt (after_cmp k e.0)) (below_all after_cmp k es) below) j d (omega arith)
+  below_at k (e ∷ es) below zero d lt = is_less (after_cmp k e.0) (first_of (is_lt (after_cmp k e.0)) (below_all after_cmp k es) below)
+  below_at k (e ∷ es) below (suc j) d lt = below_at k es (second_of (is_lt (after_cmp k e.0)) (below_all after_cmp k es) below) j d (omega arith)
 
   pub rise_at : (es : Named X) → Rises es → (i j : ℕ) (d : Name × X) → i < j → j < length es → after_cmp (get_or es i d).0 (get_or es j d).0 ≡ Less
   rise_at [] rises i j d lt in_range = absurd (omega arith)

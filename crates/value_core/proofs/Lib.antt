@@ -12,5 +12,6 @@ pub mod PlacedLaws
 pub mod primitives
 pub mod Steps
 pub mod Structural
+pub mod Tests
 pub mod ValueFolds
 pub mod Within

@@ -1,6 +1,6 @@
 -- Ordered maps by name keep what maps by name say, also where they are changed in place.
-use Rattle.std.proofs.Common.{◌≡◌, ◌∙◌, Bool, true, false, List, [], ◌∷◌, cond, refl, sym, ap, subst, Option, Some, None}
-use Rattle.std.specs.Prelude.{◌&&◌, T}
+use Rattle.std.proofs.Common.{◌≡◌, ◌∙◌, [], ◌∷◌, cond, refl, sym, ap, subst, Option, Some, None}
+use Rattle.std.specs.Prelude.{T}
 use Rattle.std.specs.declared.cmp.Ordering.{Ordering}
 use Rattle.std.specs.declared.cmp.Ordering.TheVariants.{Less, Equal, Greater}
 use Rattle.std.specs.BTreeMap.{BTreeMap, get_by, insert_entry, is_at, WritesThrough}
@@ -14,6 +14,7 @@ use Rattle.value_core.specs.Name.{after_cmp}
 use Rattle.value_core.specs.Named.{Name, Named, named, with_named, Rises, IsChanged}
 use Rattle.value_core.specs.NameOrder.{after_cmp_total}
 use Rattle.value_core.proofs.NamedLaws.{named-below, below-less, rises-first, rises-rest}
+use Rattle.value_core.proofs.Tests.{both}
 
 -- what is looked up is what is named
 pub lookup_is_named : {X : Type 0} (name : Name) (entries : Named X) → lookup (is_at (after_cmp name)) entries ≡ named name entries
@@ -34,10 +35,6 @@ inserted_is_named {X} (e ∷ es) name v = placed (after_cmp name e.0) (ap (λ (r
 -- names that rise still do
 pub rises_with_named : {X : Type 0} (old new : Named X) (name : Name) (v : X) → new ≡ insert_entry after_cmp old name v → Rises old → Rises new
 rises_with_named old new name v is rises = subst Rises (sym (is ∙ inserted_is_named old name v)) (is_sorted-put after_cmp after_cmp_total name v old rises)
-
-both : (a b : Bool) → T a → T b → T (a && b)
-both true b p q = q
-both false b p q = p
 
 below_of : {X : Type 0} (k : Name) (es : Named X) → AllByRecursion (λ y. after_cmp k y ≡ Less) (keys_of es) → T (below_all after_cmp k es)
 below_of k [] all = tt

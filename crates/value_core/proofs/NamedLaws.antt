@@ -1,6 +1,6 @@
 -- The laws of finite maps by name.
 use Rattle.std.proofs.Common.{◌≡◌, ◌∙◌, ◌⊎◌, inl, inr, ℕ, suc, ◌+◌, ◌≤◌, Bool, true, false, cond, [], ◌∷◌, refl, sym, ap, subst, arith}
-use Rattle.std.specs.Prelude.{◌&&◌, Option, None, Some, T, All}
+use Rattle.std.specs.Prelude.{Option, None, Some, T, All}
 use Rattle.std.specs.Option.{option_or, IsSome}
 use Rattle.std.specs.declared.cmp.Ordering.{Ordering}
 use Rattle.std.specs.declared.cmp.Ordering.TheVariants.{Less, Equal, Greater}
@@ -11,6 +11,7 @@ use Rattle.value_core.specs.Name.{after_cmp}
 use Rattle.value_core.specs.NameOrder.{after_cmp_total}
 use Rattle.value_core.proofs.Names.{after_cmp-IsAntisymmetric}
 use Rattle.value_core.specs.Named.{Name, Named, named, with_named, over, same_name, Rises}
+use Rattle.value_core.proofs.Tests.{first_of, is_less, second_of}
 
 equal_of : (o : Ordering) → is_eq o ≡ true → o ≡ Equal
 equal_of Less e = cc
@@ -70,19 +71,6 @@ still_over q [] lower there = there
 still_over q (e ∷ es) lower there = still_over q es (with_named lower e.0 e.1) (still_named q e.0 e.1 lower there)
 
 -- ---- the order of the entries
-less_of : (o : Ordering) → T (is_lt o) → o ≡ Less
-less_of Less t = refl
-less_of Equal t = absurd t
-less_of Greater t = absurd t
-
-first_of : (a b : Bool) → T (a && b) → T a
-first_of true b t = tt
-first_of false b t = absurd t
-
-second_of : (a b : Bool) → T (a && b) → T b
-second_of true b t = t
-second_of false b t = absurd t
-
 -- the name is before all names of a map that rises
 abbrev pub IsBelow : {X : Type 0} → Name → Named X → Type 0
 IsBelow k all = T (below_all after_cmp k all)
@@ -98,14 +86,14 @@ rises-rest e es rises = second_of (below_all after_cmp e.0 es) (is_sorted after_
 pub below-less : {X : Type 0} (q k : Name) (es : Named X) → after_cmp q k ≡ Less → IsBelow k es → IsBelow q es
 below-less q k [] less below = tt
 below-less q k (e ∷ es) less below =
-    let here = less_of (after_cmp k e.0) (first_of (is_lt (after_cmp k e.0)) (below_all after_cmp k es) below) in
+    let here = is_less (after_cmp k e.0) (first_of (is_lt (after_cmp k e.0)) (below_all after_cmp k es) below) in
     rw (after_cmp_total.trans q k e.0 less here) (below-less q k es less (second_of (is_lt (after_cmp k e.0)) (below_all after_cmp k es) below))
 
 -- a name that is below all is none of them
 pub named-below : {X : Type 0} (q : Name) (es : Named X) → IsBelow q es → named q es ≡ None
 named-below q [] below = refl
 named-below {X} q (e ∷ es) below =
-    let here = less_of (after_cmp q e.0) (first_of (is_lt (after_cmp q e.0)) (below_all after_cmp q es) below) in
+    let here = is_less (after_cmp q e.0) (first_of (is_lt (after_cmp q e.0)) (below_all after_cmp q es) below) in
     ap (λ o. cond (is_eq o) (Some e.1) (named q es)) here ∙ named-below q es (second_of (is_lt (after_cmp q e.0)) (below_all after_cmp q es) below)
 
 -- ---- a sum over the entries

@@ -1,16 +1,31 @@
 -- Views of the entries of a map by name.
-use Rattle.std.proofs.Common.{◌≡◌, ◌∙◌, Bool, true, false, List, [], ◌∷◌, cond, refl, sym, ap, subst, Option, Some, None}
+use Rattle.std.proofs.Common.{◌≡◌, ◌∙◌, Bool, true, false, [], ◌∷◌, cond, refl, sym, ap, subst, Some, None}
 use Rattle.std.specs.declared.cmp.Ordering.{Ordering}
 use Rattle.std.specs.declared.cmp.Ordering.TheVariants.{Less, Equal, Greater}
 use Rattle.std.specs.BTreeMap.{BTreeMap, is_at, WritesThrough}
-use Rattle.std.specs.FinMap.Entries.{by_order}
+use Rattle.std.specs.FinMap.Entries.{below_all, by_order, is_sorted}
 use Rattle.std.specs.List.Sorted.{IsStrictlySortedBy}
 use Rattle.std.specs.Map.{set_value, keys_of}
 use Rattle.std.proofs.lemmas.Map.Steps.{set_value_same}
 use Rattle.std.specs.Option.{option_map}
+use Rattle.std.specs.Ordering.{is_lt}
 use Rattle.value_core.specs.Name.{after_cmp}
 use Rattle.value_core.specs.Named.{Name, Named, named, with_named, same_name, each_as, Rises}
+use Rattle.value_core.proofs.NamedLaws.{IsBelow, rises-first, rises-rest}
 use Rattle.value_core.proofs.NameMaps.{lookup_is_named, rises_of, written_is_put}
+use Rattle.value_core.proofs.Tests.{both, first_of, second_of}
+
+-- the names of a view rise where those of the entries do
+below_each : {X Y : Type 0} (f : X → Y) (k : Name) (es : Named X) → IsBelow k es → IsBelow k (each_as f es)
+below_each f k [] below = tt
+below_each f k (e ∷ es) below =
+    both (is_lt (after_cmp k e.0)) (below_all after_cmp k (each_as f es)) (first_of (is_lt (after_cmp k e.0)) (below_all after_cmp k es) below)
+    (below_each f k es (second_of (is_lt (after_cmp k e.0)) (below_all after_cmp k es) below))
+
+pub rises_each : {X Y : Type 0} (f : X → Y) (es : Named X) → Rises es → Rises (each_as f es)
+rises_each f [] rises = tt
+rises_each f (e ∷ es) rises =
+    both (below_all after_cmp e.0 (each_as f es)) (is_sorted after_cmp (each_as f es)) (below_each f e.0 es (rises-first e es rises)) (rises_each f es (rises-rest e es rises))
 
 -- what stands under a name is viewed
 pub named-each_as : {X Y : Type 0} (f : X → Y) (n : Name) (es : Named X) → named n (each_as f es) ≡ option_map f (named n es)

@@ -1,5 +1,5 @@
 -- Pairs with rising keys are a finite map.
-use Rattle.std.proofs.Common.{◌≡◌, ℕ, zero, suc, ◌+◌, ◌<◌, ◌≤◌, Bool, true, false, ◌&&◌, T, List, [], ◌∷◌, ◌++◌, take, length, get_or, set, Option, Some, None, Result, Ok, Err, IfOk, IfErr, inl, inr, cond, refl, sym, ap, subst, ◌∙◌, arith}
+use Rattle.std.proofs.Common.{◌≡◌, ℕ, zero, suc, ◌+◌, ◌<◌, ◌≤◌, Bool, true, false, T, List, [], ◌∷◌, ◌++◌, take, length, get_or, set, Option, Some, None, Result, Ok, Err, IfOk, IfErr, inl, inr, cond, refl, sym, ap, subst, ◌∙◌, arith}
 use Rattle.std.specs.declared.cmp.Ordering.{Ordering}
 use Rattle.std.specs.declared.cmp.Ordering.TheVariants.{Less, Equal, Greater}
 use Rattle.std.specs.Ordering.{is_lt, is_eq, is_ne, ordering_reverse, ordering_index}
@@ -13,31 +13,7 @@ use Rattle.value_core.specs.declared.pair.Pair.{Pair}
 use Rattle.value_core.specs.Key.{key_cmp}
 use Rattle.value_core.specs.Pairs.{before_all, keys_rise, find_key, put_key, without_key, by_order, KeysBelow, KeysAbove, pair_of, IsPlaceOf, IsGapFor}
 use Rattle.value_core.proofs.KeyOrder.{key_cmp_total, key_cmp-IsAntisymmetric}
-
-both : (a b : Bool) → T a → T b → T (a && b)
-both true b p q = q
-both false b p q = p
-
-first : (a b : Bool) → T (a && b) → T a
-first true b p = tt
-first false b p = p
-
-second : (a b : Bool) → T (a && b) → T b
-second true b p = p
-second false b p = absurd p
-
-less : (o : Ordering) → T (is_lt o) → o ≡ Less
-less Less p = refl
-less Equal p = absurd p
-less Greater p = absurd p
-
--- where an answer rises to the next
-rising : (a b : Ordering) → (b ≡ Less → a ≡ Less) → (b ≡ Equal → a ≡ Less) → ordering_index a ≤ ordering_index b
-rising a Less below equal = rw (below refl) (omega arith)
-rising a Equal below equal = rw (equal refl) (omega arith)
-rising Less Greater below equal = omega arith
-rising Equal Greater below equal = omega arith
-rising Greater Greater below equal = omega arith
+use Rattle.value_core.proofs.Tests.{both, first_of, is_less, rising, second_of}
 
 module _ {V : Type 0} where
   abbrev pair : Key → V → Pair V
@@ -100,27 +76,27 @@ module _ {V : Type 0} where
   -- ---- rising keys, place by place
   before_all_at : (x : Key) (ps : List (Pair V)) → T (before_all x ps) → (j : ℕ) (d : Pair V) → j < length ps → key_cmp x (get_or ps j d).key ≡ Less
   before_all_at x [] h j d lt = absurd (omega arith)
-  before_all_at x (p ∷ ps) h zero d lt = less _ (first _ _ h)
-  before_all_at x (p ∷ ps) h (suc j) d lt = before_all_at x ps (second _ _ h) j d (omega arith)
+  before_all_at x (p ∷ ps) h zero d lt = is_less _ (first_of _ _ h)
+  before_all_at x (p ∷ ps) h (suc j) d lt = before_all_at x ps (second_of _ _ h) j d (omega arith)
 
   pub rise_at : (ps : List (Pair V)) → T (keys_rise ps) → (i j : ℕ) (d : Pair V) → i < j → j < length ps → key_cmp (get_or ps i d).key (get_or ps j d).key ≡ Less
   rise_at [] h i j d lt in_range = absurd (omega arith)
   rise_at (p ∷ ps) h i zero d lt in_range = absurd (omega arith)
-  rise_at (p ∷ ps) h zero (suc j) d lt in_range = before_all_at p.key ps (first _ _ h) j d (omega arith)
-  rise_at (p ∷ ps) h (suc i) (suc j) d lt in_range = rise_at ps (second _ _ h) i j d (omega arith) (omega arith)
+  rise_at (p ∷ ps) h zero (suc j) d lt in_range = before_all_at p.key ps (first_of _ _ h) j d (omega arith)
+  rise_at (p ∷ ps) h (suc i) (suc j) d lt in_range = rise_at ps (second_of _ _ h) i j d (omega arith) (omega arith)
 
   -- ---- the order is kept
   below_chain : (x y : Key) (ps : List (Pair V)) → key_cmp x y ≡ Less → T (before_all y ps) → T (before_all x ps)
   below_chain x y [] e h = tt
   below_chain x y (p ∷ ps) e h =
-      both _ _ (subst (λ o. T (is_lt o)) (sym (key_cmp_total.trans x y p.key e (less _ (first _ _ h)))) tt) (below_chain x y ps e (second _ _ h))
+      both _ _ (subst (λ o. T (is_lt o)) (sym (key_cmp_total.trans x y p.key e (is_less _ (first_of _ _ h)))) tt) (below_chain x y ps e (second_of _ _ h))
 
   before_all-put : (x k : Key) (v : V) (ps : List (Pair V)) → key_cmp x k ≡ Less → T (before_all x ps) → T (before_all x (put_key k v ps))
   before_all-put x k v [] e h = both _ _ (subst (λ o. T (is_lt o)) (sym e) tt) tt
   before_all-put x k v (p ∷ ps) e h =
       elim (key_cmp p.key k) as (λ o. T (before_all x (by_order o (p ∷ put_key k v ps) (pair k v ∷ ps) (pair k v ∷ p ∷ ps)))) [
-        | Less ↦ both _ _ (first _ _ h) (before_all-put x k v ps e (second _ _ h))
-        | Equal ↦ both _ _ (subst (λ o. T (is_lt o)) (sym e) tt) (second _ _ h)
+        | Less ↦ both _ _ (first_of _ _ h) (before_all-put x k v ps e (second_of _ _ h))
+        | Equal ↦ both _ _ (subst (λ o. T (is_lt o)) (sym e) tt) (second_of _ _ h)
         | Greater ↦ both _ _ (subst (λ o. T (is_lt o)) (sym e) tt) h
       ]
 
@@ -128,24 +104,24 @@ module _ {V : Type 0} where
   keys_rise-put k v [] h = tt
   keys_rise-put k v (p ∷ ps) h =
       elim (key_cmp p.key k) as (λ o. key_cmp p.key k ≡ o → T (keys_rise (by_order o (p ∷ put_key k v ps) (pair k v ∷ ps) (pair k v ∷ p ∷ ps)))) [
-        | Less ↦ λ e. both _ _ (before_all-put p.key k v ps e (first _ _ h)) (keys_rise-put k v ps (second _ _ h))
-        | Equal ↦ λ e. both _ _ (subst (λ q. T (before_all q ps)) (key_cmp-IsAntisymmetric _ _ e) (first _ _ h)) (second _ _ h)
+        | Less ↦ λ e. both _ _ (before_all-put p.key k v ps e (first_of _ _ h)) (keys_rise-put k v ps (second_of _ _ h))
+        | Equal ↦ λ e. both _ _ (subst (λ q. T (before_all q ps)) (key_cmp-IsAntisymmetric _ _ e) (first_of _ _ h)) (second_of _ _ h)
         | Greater ↦ λ e.
             let below : key_cmp k p.key ≡ Less = key_cmp_total.antisymm k p.key ∙ ap ordering_reverse e in
-            both _ _ (both _ _ (subst (λ o. T (is_lt o)) (sym below) tt) (below_chain k p.key ps below (first _ _ h))) h
+            both _ _ (both _ _ (subst (λ o. T (is_lt o)) (sym below) tt) (below_chain k p.key ps below (first_of _ _ h))) h
       ] refl
 
   before_all-without : (x k : Key) (ps : List (Pair V)) → T (before_all x ps) → T (before_all x (without_key k ps))
   before_all-without x k [] h = tt
   before_all-without x k (p ∷ ps) h =
-      let rest = before_all-without x k ps (second _ _ h) in
-      elim (is_ne (key_cmp p.key k)) as (λ b. T (before_all x (cond b (p ∷ without_key k ps) (without_key k ps)))) [ true ↦ both _ _ (first _ _ h) rest | false ↦ rest ]
+      let rest = before_all-without x k ps (second_of _ _ h) in
+      elim (is_ne (key_cmp p.key k)) as (λ b. T (before_all x (cond b (p ∷ without_key k ps) (without_key k ps)))) [ true ↦ both _ _ (first_of _ _ h) rest | false ↦ rest ]
 
   pub keys_rise-without : (k : Key) (ps : List (Pair V)) → T (keys_rise ps) → T (keys_rise (without_key k ps))
   keys_rise-without k [] h = tt
   keys_rise-without k (p ∷ ps) h =
-      let rest = keys_rise-without k ps (second _ _ h) in
-      elim (is_ne (key_cmp p.key k)) as (λ b. T (keys_rise (cond b (p ∷ without_key k ps) (without_key k ps)))) [ true ↦ both _ _ (before_all-without p.key k ps (first _ _ h)) rest | false ↦ rest ]
+      let rest = keys_rise-without k ps (second_of _ _ h) in
+      elim (is_ne (key_cmp p.key k)) as (λ b. T (keys_rise (cond b (p ∷ without_key k ps) (without_key k ps)))) [ true ↦ both _ _ (before_all-without p.key k ps (first_of _ _ h)) rest | false ↦ rest ]
 
   -- ---- a finite map: what is found after a put and after a removal
   pub find-put : (k q : Key) (v : V) (ps : List (Pair V)) → find_key q (put_key k v ps) ≡ cond (is_eq (key_cmp k q)) (Some v) (find_key q ps)
@@ -199,8 +175,8 @@ module _ {V : Type 0} where
   pub find_before : (k : Key) (ps : List (Pair V)) → T (before_all k ps) → find_key k ps ≡ None
   find_before k [] h = refl
   find_before k (p ∷ ps) h =
-      let after : key_cmp p.key k ≡ Greater = key_cmp_total.antisymm p.key k ∙ ap ordering_reverse (less _ (first _ _ h)) in
-      rw after (find_before k ps (second _ _ h))
+      let after : key_cmp p.key k ≡ Greater = key_cmp_total.antisymm p.key k ∙ ap ordering_reverse (is_less _ (first_of _ _ h)) in
+      rw after (find_before k ps (second_of _ _ h))
 
   pub find_first : (p : Pair V) (ps : List (Pair V)) → find_key p.key (p ∷ ps) ≡ Some p.value
   find_first p ps = rw (tied_itself key_cmp_total p.key)
@@ -213,12 +189,12 @@ module _ {V : Type 0} where
   same_pairs (p ∷ ps) (q ∷ qs) h g alike =
       elim (key_cmp p.key q.key) as (λ o. key_cmp p.key q.key ≡ o → p ∷ ps ≡ q ∷ qs) [
         | Less ↦ λ e.
-            let none = find_before p.key (q ∷ qs) (both _ _ (subst (λ o. T (is_lt o)) (sym e) tt) (below_chain p.key q.key qs e (first _ _ g))) in
+            let none = find_before p.key (q ∷ qs) (both _ _ (subst (λ o. T (is_lt o)) (sym e) tt) (below_chain p.key q.key qs e (first_of _ _ g))) in
             let one = sym none ∙ sym (alike p.key) ∙ find_first p ps in cc
-        | Equal ↦ λ e. let same = key_cmp-IsAntisymmetric _ _ e in together same (same_pairs ps qs (second _ _ h) (second _ _ g) (rest_alike same))
+        | Equal ↦ λ e. let same = key_cmp-IsAntisymmetric _ _ e in together same (same_pairs ps qs (second_of _ _ h) (second_of _ _ g) (rest_alike same))
         | Greater ↦ λ e.
             let e' : key_cmp q.key p.key ≡ Less = key_cmp_total.antisymm q.key p.key ∙ ap ordering_reverse e in
-            let none = find_before q.key (p ∷ ps) (both _ _ (subst (λ o. T (is_lt o)) (sym e') tt) (below_chain q.key p.key ps e' (first _ _ h))) in
+            let none = find_before q.key (p ∷ ps) (both _ _ (subst (λ o. T (is_lt o)) (sym e') tt) (below_chain q.key p.key ps e' (first_of _ _ h))) in
             let one = sym none ∙ alike q.key ∙ find_first q qs in cc
       ] refl
     where
@@ -228,7 +204,7 @@ module _ {V : Type 0} where
             | Less ↦ λ e. passed e refl
             | Equal ↦ λ e.
                 let here = key_cmp-IsAntisymmetric _ _ e in
-                subst (λ z. find_key z ps ≡ find_key z qs) here (find_before p.key ps (first _ _ h) ∙ sym (subst (λ z. find_key z qs ≡ None) (sym same) (find_before q.key qs (first _ _ g))))
+                subst (λ z. find_key z ps ≡ find_key z qs) here (find_before p.key ps (first_of _ _ h) ∙ sym (subst (λ z. find_key z qs ≡ None) (sym same) (find_before q.key qs (first_of _ _ g))))
             | Greater ↦ λ e. passed e refl
           ] refl
         where
@@ -295,13 +271,13 @@ module _ {V : Type 0} where
   before_all-take k zero [] h = tt
   before_all-take k zero (p ∷ ps) h = tt
   before_all-take k (suc n) [] h = tt
-  before_all-take k (suc n) (p ∷ ps) h = both _ _ (first _ _ h) (before_all-take k n ps (second _ _ h))
+  before_all-take k (suc n) (p ∷ ps) h = both _ _ (first_of _ _ h) (before_all-take k n ps (second_of _ _ h))
 
   pub keys_rise-take : (n : ℕ) (ps : List (Pair V)) → T (keys_rise ps) → T (keys_rise (take n ps))
   keys_rise-take zero [] h = tt
   keys_rise-take zero (p ∷ ps) h = tt
   keys_rise-take (suc n) [] h = tt
-  keys_rise-take (suc n) (p ∷ ps) h = both _ _ (before_all-take p.key n ps (first _ _ h)) (keys_rise-take n ps (second _ _ h))
+  keys_rise-take (suc n) (p ∷ ps) h = both _ _ (before_all-take p.key n ps (first_of _ _ h)) (keys_rise-take n ps (second_of _ _ h))
 
   -- the pairs up to a place and the one at it still rise
   pub rise_next : (ps qs : List (Pair V)) (i : ℕ) (p : Pair V) (k : Key) (v : V) → T (keys_rise ps) → i < length ps → qs ≡ take i ps → p ≡ get_or ps i p → k ≡ p.key → v ≡ p.value → T (keys_rise (qs ++ pair_of k v ∷ []))

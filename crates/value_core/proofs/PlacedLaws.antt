@@ -1,9 +1,9 @@
 -- What places show that are made first, and filled later.
 use Rattle.std.proofs.Common.{◌≡◌, ◌∙◌, Bool, true, false, cond, [], ◌∷◌, refl, sym, ap, subst, Option, Some, None}
-use Rattle.std.specs.Prelude.{◌&&◌, T}
+use Rattle.std.specs.Prelude.{T}
 use Rattle.std.specs.declared.cmp.Ordering.{Ordering}
 use Rattle.std.specs.declared.cmp.Ordering.TheVariants.{Less, Equal, Greater}
-use Rattle.std.specs.FinMap.Entries.{by_order, below_all}
+use Rattle.std.specs.FinMap.Entries.{by_order, below_all, is_sorted}
 use Rattle.std.specs.Option.{IsSome, option_and_then}
 use Rattle.std.specs.Ordering.{is_eq, is_lt}
 use Rattle.value_core.specs.Name.{after_cmp}
@@ -11,21 +11,10 @@ use Rattle.value_core.specs.Named.{Name, Named, named, with_named, same_name, Ri
 use Rattle.value_core.specs.Placed.{Placed, filled, if_filled, HasPlace, IsPrepared}
 use Rattle.value_core.proofs.Names.{after_cmp-IsAntisymmetric}
 use Rattle.value_core.proofs.NamedLaws.{IsBelow, after_cmp-itself, below-less, named-below, rises-first, rises-rest, rises-with_named, same_name-equal, some-here, still_named}
-
-first_of : (a b : Bool) → T (a && b) → T a
-first_of true b t = tt
-first_of false b t = absurd t
-
-second_of : (a b : Bool) → T (a && b) → T b
-second_of true b t = t
-second_of false b t = absurd t
-
-both : (a b : Bool) → T a → T b → T (a && b)
-both true b p q = q
-both false b p q = p
+use Rattle.value_core.proofs.Tests.{both, first_of, second_of}
 
 -- what is below all places is below all that they show
-below_filled : {X : Type 0} (k : Name) (all : Placed X) → IsBelow k all → IsBelow k (filled all)
+pub below_filled : {X : Type 0} (k : Name) (all : Placed X) → IsBelow k all → IsBelow k (filled all)
 below_filled k [] below = tt
 below_filled {X} k (e ∷ es) below =
     on e.1 (first_of (is_lt (after_cmp k e.0)) (below_all after_cmp k es) below) (below_filled k es (second_of (is_lt (after_cmp k e.0)) (below_all after_cmp k es) below))
@@ -33,6 +22,15 @@ below_filled {X} k (e ∷ es) below =
     on : (o : Option X) → T (is_lt (after_cmp k e.0)) → IsBelow k (filled es) → IsBelow k (if_filled o e.0 (filled es))
     on None less rest = rest
     on (Some x) less rest = both (is_lt (after_cmp k e.0)) (below_all after_cmp k (filled es)) less rest
+
+-- where the places rise, what they show does
+pub rises_filled : {X : Type 0} (all : Placed X) → Rises all → Rises (filled all)
+rises_filled [] rises = tt
+rises_filled {X} (e ∷ es) rises = on e.1 (rises_filled es (rises-rest e es rises)) (below_filled e.0 es (rises-first e es rises))
+  where
+    on : (o : Option X) → Rises (filled es) → IsBelow e.0 (filled es) → Rises (if_filled o e.0 (filled es))
+    on None rest below = rest
+    on (Some x) rest below = both (below_all after_cmp e.0 (filled es)) (is_sorted after_cmp (filled es)) below rest
 
 -- what they show under a name is what the place there holds
 pub named_filled : {X : Type 0} (k : Name) (all : Placed X) → Rises all → named k (filled all) ≡ option_and_then (λ (o : Option X). o) (named k all)

@@ -1,5 +1,5 @@
 -- Maps by name whose places can be made before they are filled.
-use Rattle.std.specs.Prelude.{◌≡◌, List, [], ◌∷◌, Option, None, Some}
+use Rattle.std.specs.Prelude.{◌≡◌, [], ◌∷◌, Option, None, Some}
 use Rattle.std.specs.Coded.{Coded, coded×, coded_list, coded_option, coded_ℕ}
 use Rattle.std.specs.Option.{IsSome}
 use Rattle.value_core.specs.Named.{Name, Named, named, Rises}

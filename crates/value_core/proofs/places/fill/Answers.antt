@@ -1,4 +1,4 @@
-use Rattle.std.proofs.Common.{◌∙◌, sym, ap, Some}
+use Rattle.std.proofs.Common.{ap, Some}
 use Rattle.std.specs.Option.{option_copied_mut}
 use Rattle.value_core.proofs.NameMaps.{found_named, written_is_put}
 use Rattle.value_core.proofs.places.fill.Goals as goal

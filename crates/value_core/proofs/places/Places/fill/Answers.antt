@@ -1,5 +1,5 @@
-use Rattle.std.proofs.Common.{◌≡◌, ◌∙◌, sym, ap, subst, Some, Option}
-use Rattle.value_core.specs.Named.{Name, Named, Rises, with_named}
+use Rattle.std.proofs.Common.{◌∙◌, sym, ap, subst, Some}
+use Rattle.value_core.specs.Named.{Rises, with_named}
 use Rattle.value_core.specs.Placed.{Placed, filled, HasPlace}
 use Rattle.value_core.proofs.NamedLaws.{rises-with_named, still_named}
 use Rattle.value_core.proofs.PlacedLaws.{filled_shows}
