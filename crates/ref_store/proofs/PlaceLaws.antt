@@ -1,17 +1,14 @@
 -- What the places of refs show, and the room at them.
 use Rattle.std.proofs.Common.{◌≡◌, ◌∙◌, ℕ, ◌<◌, ◌≤◌, Bool, true, false, cond, List, [], ◌∷◌, ◌++◌, get_or, refl, sym, ap, subst, Option, Some, None, arith}
-use Rattle.std.specs.Prelude.{◌&&◌, All, T, unwrap_or}
-use Rattle.std.specs.FinMap.Entries.{below_all, is_sorted}
+use Rattle.std.specs.Prelude.{All, unwrap_or}
 use Rattle.std.specs.List.{AllZip}
 use Rattle.std.specs.Map.Calls.{RetainsPairs}
 use Rattle.std.specs.Option.{option_and_then, option_map, IsSome}
-use Rattle.std.specs.Ordering.{is_lt}
 use Rattle.value_core.specs.declared.value.Value.{Value}
-use Rattle.value_core.specs.Name.{after_cmp}
 use Rattle.value_core.specs.Named.{Name, Named, named, with_named, each_as, same_name, Rises}
-use Rattle.value_core.specs.Placed.{filled, if_filled, HasPlace, Placed}
+use Rattle.value_core.specs.Placed.{filled, HasPlace, Placed}
 use Rattle.value_core.specs.Roomy.{Roomy}
-use Rattle.value_core.proofs.NamedLaws.{IsBelow, named-here, named-with_named, rises-first, rises-rest, rises-with_named, same_name-equal}
+use Rattle.value_core.proofs.NamedLaws.{named-here, named-with_named, rises-with_named, same_name-equal}
 use Rattle.value_core.proofs.NamedViews.{each_as-with_named, named-each_as, rises_each, view_found, view_none}
 use Rattle.value_core.proofs.PlacedLaws.{filled_shows, named_filled, prepared_shows, rises_filled}
 use Rattle.ref_store.specs.declared.version.Version.{Version}

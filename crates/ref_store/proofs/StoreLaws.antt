@@ -6,12 +6,11 @@ use Rattle.std.specs.Option.{option_and_then, option_map, option_or}
 use Rattle.value_core.specs.declared.value.Value.{Value}
 use Rattle.value_core.specs.Named.{Name, Named, named, over, each_as, same_name, Rises}
 use Rattle.value_core.proofs.NamedLaws.{named-below, named-upon, named-with_named, rises-first, rises-rest, rises-with_named, same_name-equal}
-use Rattle.value_core.proofs.NamedViews.{named-each_as}
+use Rattle.value_core.proofs.NamedViews.{named-each_as, rises_each}
 use Rattle.value_core.proofs.PlacedLaws.{named_filled}
 use Rattle.ref_store.specs.declared.version.Version.{Version}
 use Rattle.ref_store.specs.Store.{committed, refs_at, version_of, versions_of, ArePruned, IsAbove, ReadsStayBelow, ReadsWrittenFrom}
 use Rattle.ref_store.specs.Version.{newest, value_at}
-use Rattle.ref_store.proofs.PlaceLaws.{rises_each}
 use Rattle.ref_store.proofs.VersionLaws.{at_push, below_push, late_at}
 
 abbrev Refs : Type 0
