@@ -233,10 +233,8 @@ impl Tasks {
         ensures log { IfOk result (λ _. self.new.top.log ≡ with_made self.old.top.log) }
         ensures answer { IfOk result (λ given. given ≡ answer_of.Value (value_of.Future future)) }
     {
-        let name = future.copy(alloc)?;
-        add(&mut self.top.known, future.copy(alloc)?)?;
-        self.top.log.count_made()?;
-        put(&mut self.results, name, done)?;
+        keep_result(alloc, &mut self.results, &future, done)?;
+        come_to_know(alloc, &mut self.top, &future)?;
         Ok(Answer::Value(Value::Future(future)))
     }
 
@@ -496,6 +494,28 @@ fn go_on(alloc: Global, around: &Around, machine: &mut Machine) -> Result<Halt, 
 {
     let _main = around.program.main();
     machine.run_to_ask(alloc, around.program)
+}
+
+/// Keeps what a child ended with under its future.
+fn keep_result(
+    alloc: Global,
+    results: &mut BTreeMap<Name, Done>,
+    future: &Name,
+    done: Done,
+) -> Result<(), AllocError>
+    ensures { IfOk result (λ _. results.new.entries ≡ with_named results.old.entries future.now done) }
+{
+    let name = future.copy(alloc)?;
+    put(results, name, done)
+}
+
+/// The task knows the result of the child that it forked under that name.
+fn come_to_know(alloc: Global, task: &mut Task, future: &Name) -> Result<(), AllocError>
+    ensures known { IfOk result (λ _. (g : Naming) → has_name task.new.known g ≡ (has_name task.old.known g || same_name g future.now)) }
+    ensures log { IfOk result (λ _. task.new.log ≡ with_made task.old.log) }
+{
+    add(&mut task.known, future.copy(alloc)?)?;
+    task.log.count_made()
 }
 
 /// The end that was met, where it is no value.
