@@ -86,7 +86,6 @@ impl Now {
         ensures kept { OnOk result ((other : Naming) → ¬ (other ≡ name) → named other self.new.units ≡ named other self.old.units) }
     {
         let machine = Machine::start(alloc, body, values, false, limits.fuel())?;
-        self.count()?;
         self.units.begin(
             alloc,
             name,
@@ -97,7 +96,8 @@ impl Now {
                 becomes: None,
                 value: None,
             },
-        )
+        )?;
+        self.count()
     }
 
     fn count(&mut self) -> Result<(), AllocError>
