@@ -13,7 +13,7 @@ use Rattle.serial_model.specs.declared.end.End.TheVariants.{UnitsSpent}
 use Rattle.serial_model.specs.State.{Setup, State}
 use Rattle.serial_model.specs.Replay.{replay, IsOver, status}
 use Rattle.serial_model.specs.declared.trace.LineKind.{LineKind}
-use Rattle.serial_model.specs.declared.trace.LineKind.TheVariants as line
+use Rattle.serial_model.specs.Kinds as trace
 use Rattle.chocola.specs.declared.outcome.Outcome.{Outcome}
 use Rattle.chocola.specs.declared.outcome.Detail.{Detail}
 use Rattle.chocola.specs.declared.outcome.Detail.TheVariants.{Nothing, Refused}
@@ -54,14 +54,9 @@ refused_as kind at = Refused Source (text.kind_number kind) at.line at.column
 abbrev pub out_of_scope : ScopeKind → Spot → Detail
 out_of_scope kind at = Refused Scope (scope.kind_number kind) at.line at.column
 
--- the number of a refusal of a trace
-abbrev pub line_kind_number : LineKind → ℕ
-line_kind_number line.BadLine = 1
-line_kind_number line.TooLong = 2
-
 -- the detail of a refused trace
 abbrev pub refused_trace : LineKind → ℕ → Detail
-refused_trace kind line = Refused Trace (line_kind_number kind) line 1
+refused_trace kind line = Refused Trace (trace.kind_number kind) line 1
 
 -- A run or a replay: the history replays to a state; the end is the state's, where there is one, and the status is that
 -- of the end; a front of the state's bytes went to standard output, and all of them where they were written. Where the

@@ -1,9 +1,8 @@
-ghost use Rattle.std.specs.Prelude.{◌≡◌, ◌↔◌, IfOk, IsTrue};
+ghost use Rattle.std.specs.Prelude.{◌≡◌, ◌↔◌, IsTrue};
 ghost use Rattle.serial_model.specs.Replay.{status};
 
 use crate::status::{DONE, FAULT, SPENT};
 use serial_model::End;
-use std::alloc::{AllocError, Global};
 use value_core::{Code, Name, Place};
 
 /// The exit status of an end.
@@ -15,24 +14,6 @@ pub fn end_status(end: &End) -> u8
         End::Fault { .. } => FAULT,
         End::Spent { .. } => SPENT,
         End::UnitsSpent => SPENT,
-    }
-}
-
-/// An equal end.
-pub fn copy_end(alloc: Global, end: &End) -> Result<End, AllocError>
-    ensures { IfOk result (λ copy. copy ≡ end.now) }
-{
-    match end {
-        End::Done => Ok(End::Done),
-        End::Fault { code, at, unit } => Ok(End::Fault {
-            code: *code,
-            at: *at,
-            unit: unit.copy(alloc)?,
-        }),
-        End::Spent { unit } => Ok(End::Spent {
-            unit: unit.copy(alloc)?,
-        }),
-        End::UnitsSpent => Ok(End::UnitsSpent),
     }
 }
 

@@ -2,7 +2,7 @@ ghost use Rattle.std.specs.Prelude.{◌≡◌, ◌≤◌, flat_map, IfOk, OnOk};
 ghost use Rattle.std.specs.Io.KnownBytes.{append_known};
 ghost use Rattle.world_io.specs.Taken.{CountsWrite, TookPrefix, Said};
 ghost use Rattle.chocola.specs.Check.{check_line, count_line};
-ghost use Rattle.chocola.specs.Lines.{usage_line, cannot_read_line, memory_line, detail_line, part_line, source_line, trace_line, differs_line, kind_name, code_name, code_number, end_line, fault_line};
+ghost use Rattle.chocola.specs.Lines.{usage_line, cannot_read_line, memory_line, detail_line, part_line, source_line, trace_line, differs_line, kind_name, end_line, fault_line};
 
 use crate::outcome::{Detail, Part};
 use core_syntax::Program;
@@ -259,9 +259,9 @@ fn fault_line(
         alloc,
         &[
             b"fault ",
-            code_digits.format(code_number(code)).as_bytes(),
+            code_digits.format(code.number()).as_bytes(),
             b" ",
-            code_name(code).as_bytes(),
+            code.name().as_bytes(),
             b" at ",
             line_digits.format(line).as_bytes(),
             b":",
@@ -282,41 +282,6 @@ fn joined(alloc: Global, pieces: &[&[u8]]) -> Result<Vec<u8>, AllocError>
         text.extend_from_slice(piece)?;
     }
     Ok(text)
-}
-
-/// The number of a fault code.
-fn code_number(code: Code) -> u8
-    ensures { result ≡ code_number code }
-{
-    match code {
-        Code::WrongType => 1,
-        Code::DivideByZero => 2,
-        Code::Overflow => 3,
-        Code::Index => 4,
-        Code::NoTransaction => 5,
-        Code::NoTurn => 6,
-        Code::FutureEscapes => 7,
-        Code::ForkTooDeep => 8,
-        Code::TooDeep => 9,
-        Code::MessageArity => 10,
-    }
-}
-
-fn code_name(code: Code) -> &'static str
-    ensures { result.now ≡ code_name code }
-{
-    match code {
-        Code::WrongType => "WrongType",
-        Code::DivideByZero => "DivideByZero",
-        Code::Overflow => "Overflow",
-        Code::Index => "Index",
-        Code::NoTransaction => "NoTransaction",
-        Code::NoTurn => "NoTurn",
-        Code::FutureEscapes => "FutureEscapes",
-        Code::ForkTooDeep => "ForkTooDeep",
-        Code::TooDeep => "TooDeep",
-        Code::MessageArity => "MessageArity",
-    }
 }
 
 /// The name of the refusal with that number.

@@ -1,5 +1,4 @@
 ghost use Rattle.std.specs.Prelude.{◌≡◌, [], None};
-ghost use Rattle.chocola.specs.Outcome.{line_kind_number};
 
 use scope_check::ScopeKind;
 use serial_model::{End, History, LineKind};
@@ -83,19 +82,10 @@ impl Detail {
     {
         Detail::Refused {
             part: Part::Trace,
-            kind: line_kind_number(kind),
+            kind: kind.number(),
             line,
             column: 1,
         }
-    }
-}
-
-fn line_kind_number(kind: LineKind) -> u8
-    ensures { result ≡ line_kind_number kind }
-{
-    match kind {
-        LineKind::BadLine => 1,
-        LineKind::TooLong => 2,
     }
 }
 

@@ -3,7 +3,7 @@ ghost use Rattle.serial_model.specs.Replay.{IsOver};
 ghost use Rattle.serial_machine.specs.Progress.{state_of};
 ghost use Rattle.chocola.specs.Replayed.{ReplaysTo, FindsEnd};
 
-use crate::ends::{copy_end, is_same_end};
+use crate::ends::is_same_end;
 use serial_machine::{Serial, SerialNo};
 use serial_model::{End, Trace};
 use std::alloc::Global;
@@ -57,7 +57,7 @@ fn differs(alloc: Global, serial: &Serial) -> Option<Replayed>
     ensures replays { IsSome (state_of serial.now) }
 {
     match serial.end() {
-        Some(end) => Some(Replayed::Differs(Some(copy_end(alloc, end).ok()?))),
+        Some(end) => Some(Replayed::Differs(Some(end.copy(alloc).ok()?))),
         None => Some(Replayed::Differs(None)),
     }
 }

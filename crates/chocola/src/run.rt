@@ -3,7 +3,6 @@ ghost use Rattle.core_syntax.specs.Table.{Table};
 ghost use Rattle.serial_model.specs.Replay.{IsOver};
 ghost use Rattle.serial_machine.specs.Progress.{state_of};
 
-use crate::ends::copy_end;
 use core_syntax::Program;
 use serial_machine::Serial;
 use serial_model::{End, Limits};
@@ -55,7 +54,7 @@ pub fn end_of(alloc: Global, serial: &Serial) -> Option<End>
     ensures replays { IsSome (state_of serial.now) }
 {
     match serial.end() {
-        Some(end) => copy_end(alloc, end).ok(),
+        Some(end) => end.copy(alloc).ok(),
         None => None,
     }
 }

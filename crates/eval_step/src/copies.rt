@@ -7,10 +7,10 @@ use crate::frame::Frame;
 use crate::item::Item;
 use crate::stack::Stack;
 use crate::walk::Walk;
-use serial_model::{Answer, Halt, Request};
+use serial_model::Answer;
 use std::alloc::{AllocError, Global};
 use value_core::Seq;
-use value_core::lists::{add, copy_list};
+use value_core::lists::add;
 
 /// An equal walk. Of a failed one there is none.
 pub fn copy_walk(alloc: Global, walk: &Walk) -> Result<Walk, AllocError>
@@ -41,7 +41,7 @@ fn copy_control(alloc: Global, control: &Control) -> Result<Control, AllocError>
         Control::Begin(body) => Ok(Control::Begin(*body)),
         Control::Enter(id) => Ok(Control::Enter(*id)),
         Control::Deliver(value) => Ok(Control::Deliver(value.copy(alloc)?)),
-        Control::Halted(halt) => Ok(Control::Halted(copy_halt(alloc, halt)?)),
+        Control::Halted(halt) => Ok(Control::Halted(halt.copy(alloc)?)),
         Control::Failed => Err(AllocError),
     }
 }
@@ -73,51 +73,6 @@ fn copy_item(alloc: Global, item: &Item) -> Result<Item, AllocError>
     }
 }
 
-/// An equal halt.
-pub fn copy_halt(alloc: Global, halt: &Halt) -> Result<Halt, AllocError>
-    ensures { IfOk result (λ copied. copied ≡ halt.now) }
-{
-    match halt {
-        Halt::Ask(request, at) => Ok(Halt::Ask(copy_request(alloc, request)?, *at)),
-        Halt::Value(value) => Ok(Halt::Value(value.copy(alloc)?)),
-        Halt::Fault(code, at) => Ok(Halt::Fault(*code, *at)),
-        Halt::Spent => Ok(Halt::Spent),
-    }
-}
-
-fn copy_request(alloc: Global, request: &Request) -> Result<Request, AllocError>
-    ensures { IfOk result (λ copied. copied ≡ request.now) }
-{
-    match request {
-        Request::Print(line) => Ok(Request::Print(line.copy(alloc)?)),
-        Request::NewRef(content) => Ok(Request::NewRef(content.copy(alloc)?)),
-        Request::Deref(cell) => Ok(Request::Deref(cell.copy(alloc)?)),
-        Request::RefSet(cell, content) => Ok(Request::RefSet(
-            cell.copy(alloc)?,
-            content.copy(alloc)?,
-        )),
-        Request::Fork(body, frame) => Ok(Request::Fork(*body, copy_list(alloc, frame.items())?)),
-        Request::Join(future) => Ok(Request::Join(future.copy(alloc)?)),
-        Request::Dosync(body, frame) => Ok(Request::Dosync(
-            *body,
-            copy_list(alloc, frame.items())?,
-        )),
-        Request::Spawn(number, state) => Ok(Request::Spawn(
-            *number,
-            copy_list(alloc, state.items())?,
-        )),
-        Request::Send(actor, message) => {
-            let message = copy_list(alloc, message.items())?;
-            Ok(Request::Send(actor.copy(alloc)?, message))
-        }
-        Request::Become(number, state) => Ok(Request::Become(
-            *number,
-            copy_list(alloc, state.items())?,
-        )),
-        Request::SelfActor => Ok(Request::SelfActor),
-    }
-}
-
 /// Equal answers.
 pub fn copy_answers(alloc: Global, answers: &[Answer]) -> Result<Seq<Answer>, AllocError>
     ensures { IfOk result (λ copied. copied ≡ answers.now) }
@@ -125,18 +80,9 @@ pub fn copy_answers(alloc: Global, answers: &[Answer]) -> Result<Seq<Answer>, Al
     let mut copied = Seq::new(alloc);
     copied.reserve(answers.len())?;
     for answer in answers {
-        add(&mut copied, copy_answer(alloc, answer)?)?;
+        add(&mut copied, answer.copy(alloc)?)?;
     }
     Ok(copied)
-}
-
-fn copy_answer(alloc: Global, answer: &Answer) -> Result<Answer, AllocError>
-    ensures { IfOk result (λ copied. copied ≡ answer.now) }
-{
-    match answer {
-        Answer::Value(value) => Ok(Answer::Value(value.copy(alloc)?)),
-        Answer::Fault(code) => Ok(Answer::Fault(*code)),
-    }
 }
 
 /// Appends an equal answer. For want of memory the answers stay.
@@ -148,5 +94,5 @@ pub fn keep_answer(
     ensures ok { OnOk result (answers.new ≡ answers.old ++ answer.now ∷ []) }
     ensures err { OnErr result (answers.new ≡ answers.old) }
 {
-    add(answers, copy_answer(alloc, answer)?)
+    add(answers, answer.copy(alloc)?)
 }

@@ -6,7 +6,6 @@ ghost use Rattle.eval_step.specs.Walk.{FailedAt, Goes, IsIn, IsThere, ItemsIn, M
 
 use crate::context::Context;
 use crate::control::Control;
-use crate::copies::copy_halt;
 use core_syntax::{NodeId, Program};
 use serial_model::{Answer, Halt};
 use std::alloc::{AllocError, Global};
@@ -46,7 +45,7 @@ impl Walk {
     {
         match mem::replace(&mut self.control, Control::Failed) {
             Control::Halted(halt) => {
-                let copied = copy_halt(alloc, &halt)?;
+                let copied = halt.copy(alloc)?;
                 self.control = Control::Halted(halt);
                 Ok(copied)
             }

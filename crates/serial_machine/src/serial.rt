@@ -178,7 +178,7 @@ fn advance(
         return Ok(false);
     }
     history.reserve(1)?;
-    let copied = copy_entry(alloc, entry)?;
+    let copied = entry.copy(alloc)?;
     match enact(alloc, program, limits, now, entry) {
         Ok(true) => {
             let done = hand_out(now, history, output, copied)?;
@@ -229,19 +229,6 @@ fn hand_out(
     match history.push(entry) {
         Ok(()) => Ok(true),
         Err(error) => Err(error),
-    }
-}
-
-/// An equal entry.
-fn copy_entry(alloc: Global, entry: &Entry) -> Result<Entry, AllocError>
-    ensures { IfOk result (λ copied. copied ≡ entry.now) }
-{
-    match entry {
-        Entry::Run(name) => Ok(Entry::Run(name.copy(alloc)?)),
-        Entry::Take(actor, sender) => {
-            let actor = actor.copy(alloc)?;
-            Ok(Entry::Take(actor, sender.copy(alloc)?))
-        }
     }
 }
 

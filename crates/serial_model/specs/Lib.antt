@@ -3,6 +3,7 @@ pub mod Carried
 pub mod Eval
 pub mod First
 pub mod Fitting
+pub mod Kinds
 pub mod Laws
 pub mod Limits
 pub mod Log

@@ -3,8 +3,7 @@ use Rattle.std.specs.Prelude.{◌≡◌, ℕ, ◌-◌, ◌<◌, ◌≤◌, ◌^�
 use Rattle.std.specs.List.{onto_first}
 use Rattle.value_core.specs.Name.{name_text}
 use Rattle.value_core.specs.Place.{Spot}
-use Rattle.value_core.specs.declared.code.Code.{Code}
-use Rattle.value_core.specs.declared.code.Code.TheVariants as code
+use Rattle.value_core.specs.FaultCodes.{code_number}
 use Rattle.serial_model.specs.declared.end.End.{End}
 use Rattle.serial_model.specs.declared.end.End.TheVariants.{Done, Fault, Spent, UnitsSpent}
 use Rattle.serial_model.specs.declared.entry.Entry.{Entry}
@@ -29,19 +28,6 @@ limits_text limits = codes "limits " ++ decimal limits.fuel ++ codes " " ++ deci
 abbrev pub entry_text : Entry → List ℕ
 entry_text (Run unit) = codes "run " ++ name_text unit
 entry_text (Take actor sender) = codes "take " ++ name_text actor ++ codes " " ++ name_text sender
-
--- a fault code by its position
-abbrev pub code_number : Code → ℕ
-code_number code.WrongType = 1
-code_number code.DivideByZero = 2
-code_number code.Overflow = 3
-code_number code.Index = 4
-code_number code.NoTransaction = 5
-code_number code.NoTurn = 6
-code_number code.FutureEscapes = 7
-code_number code.ForkTooDeep = 8
-code_number code.TooDeep = 9
-code_number code.MessageArity = 10
 
 abbrev pub place_text : Spot → List ℕ
 place_text at = decimal at.line ++ codes ":" ++ decimal at.column

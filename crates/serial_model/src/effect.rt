@@ -1,3 +1,7 @@
+ghost use Rattle.std.specs.Prelude.{◌≡◌, IfOk};
+
+use std::alloc::{AllocError, Global};
+use value_core::lists::copy_list;
 use value_core::{Name, Text, Values};
 
 /// What a task of a transaction did, with the task and the number of the effect there, from 0. By these two an effect is
@@ -20,4 +24,40 @@ pub enum What {
     Spawn(Name, u32, Values),
     /// The turn's actor has that behaviour and state from the next turn on.
     Become(u32, Values),
+}
+
+impl Effect {
+    /// An equal effect.
+    pub fn copy(&self, alloc: Global) -> Result<Self, AllocError>
+        ensures { IfOk result (λ copied. copied ≡ self.now) }
+    {
+        Ok(Effect {
+            task: self.task.copy(alloc)?,
+            number: self.number,
+            what: self.what.copy(alloc)?,
+        })
+    }
+}
+
+impl What {
+    /// An equal one.
+    pub fn copy(&self, alloc: Global) -> Result<Self, AllocError>
+        ensures { IfOk result (λ copied. copied ≡ self.now) }
+    {
+        match self {
+            What::Bytes(text) => Ok(What::Bytes(Text::from_bytes(alloc, text.items())?)),
+            What::Send(actor, message) => {
+                let message = copy_list(alloc, message.items())?;
+                Ok(What::Send(actor.copy(alloc)?, message))
+            }
+            What::Spawn(actor, behaviour, state) => {
+                let state = copy_list(alloc, state.items())?;
+                Ok(What::Spawn(actor.copy(alloc)?, *behaviour, state))
+            }
+            What::Become(behaviour, state) => {
+                let state = copy_list(alloc, state.items())?;
+                Ok(What::Become(*behaviour, state))
+            }
+        }
+    }
 }

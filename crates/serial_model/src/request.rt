@@ -1,4 +1,8 @@
+ghost use Rattle.std.specs.Prelude.{◌≡◌, IfOk};
+
 use core_syntax::NodeId;
+use std::alloc::{AllocError, Global};
+use value_core::lists::copy_list;
 use value_core::{Name, Text, Value, Values};
 
 /// What an evaluation asks for.
@@ -26,4 +30,43 @@ pub enum Request {
     Become(u32, Values),
     /// The actor whose turn this is.
     SelfActor,
+}
+
+impl Request {
+    /// An equal request.
+    pub fn copy(&self, alloc: Global) -> Result<Self, AllocError>
+        ensures { IfOk result (λ copied. copied ≡ self.now) }
+    {
+        match self {
+            Request::Print(line) => Ok(Request::Print(line.copy(alloc)?)),
+            Request::NewRef(content) => Ok(Request::NewRef(content.copy(alloc)?)),
+            Request::Deref(cell) => Ok(Request::Deref(cell.copy(alloc)?)),
+            Request::RefSet(cell, content) => Ok(Request::RefSet(
+                cell.copy(alloc)?,
+                content.copy(alloc)?,
+            )),
+            Request::Fork(body, frame) => Ok(Request::Fork(
+                *body,
+                copy_list(alloc, frame.items())?,
+            )),
+            Request::Join(future) => Ok(Request::Join(future.copy(alloc)?)),
+            Request::Dosync(body, frame) => Ok(Request::Dosync(
+                *body,
+                copy_list(alloc, frame.items())?,
+            )),
+            Request::Spawn(number, state) => Ok(Request::Spawn(
+                *number,
+                copy_list(alloc, state.items())?,
+            )),
+            Request::Send(actor, message) => {
+                let message = copy_list(alloc, message.items())?;
+                Ok(Request::Send(actor.copy(alloc)?, message))
+            }
+            Request::Become(number, state) => Ok(Request::Become(
+                *number,
+                copy_list(alloc, state.items())?,
+            )),
+            Request::SelfActor => Ok(Request::SelfActor),
+        }
+    }
 }

@@ -1,3 +1,6 @@
+ghost use Rattle.std.specs.Prelude.{◌≡◌};
+ghost use Rattle.serial_model.specs.Kinds.{kind_number};
+
 use crate::end::End;
 use crate::history::History;
 use crate::limits::Limits;
@@ -17,4 +20,16 @@ pub enum LineKind {
     BadLine = 1,
     /// There are more bytes than a trace is read from.
     TooLong,
+}
+
+impl LineKind {
+    /// The number of the refusal, from 1 to 2.
+    pub fn number(self) -> u8
+        ensures { result ≡ kind_number self }
+    {
+        match self {
+            LineKind::BadLine => 1,
+            LineKind::TooLong => 2,
+        }
+    }
 }

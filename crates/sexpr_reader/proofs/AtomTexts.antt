@@ -12,6 +12,7 @@ use Rattle.std.proofs.lemmas.Fmt.{decimal_digit, decimal_is_IsNumeral, first_dec
 use Rattle.std.proofs.lemmas.Slice.Eq.{bytes_eq-Decides}
 use Rattle.std.proofs.lemmas.Str.Parse.{digit_from_value}
 use Rattle.value_core.specs.Place.{Spot}
+use Rattle.value_core.specs.Texts.{escaped, quoted}
 use Rattle.sexpr_reader.specs.declared.lead.Lead.{Lead}
 use Rattle.sexpr_reader.specs.declared.lead.Lead.TheVariants.{Other}
 use Rattle.sexpr_reader.specs.declared.token.Atom.{Atom}
@@ -25,7 +26,7 @@ use Rattle.sexpr_reader.specs.Integer.{IsInteger}
 use Rattle.sexpr_reader.specs.Lead.{begins, lead_of, is_digit, is_word_byte}
 use Rattle.sexpr_reader.specs.Names.{IsName}
 use Rattle.sexpr_reader.specs.Runs.{IsRun}
-use Rattle.sexpr_reader.specs.Spelling.{escaped, quoted, kind_text}
+use Rattle.sexpr_reader.specs.Spelling.{kind_text}
 use Rattle.sexpr_reader.specs.Strings.{unescaped, Written, Content}
 use Rattle.sexpr_reader.specs.Tokens.{Begins, named}
 use Rattle.sexpr_reader.proofs.Cursors.{after-append}

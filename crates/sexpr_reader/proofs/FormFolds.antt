@@ -3,6 +3,7 @@ use Rattle.std.proofs.Common.{◌≡◌, ℕ, Bool, ℤ, List, [], ◌++◌, map
 use Rattle.std.specs.Prelude.{codes}
 use Rattle.std.specs.Fmt.{signed_decimal}
 use Rattle.value_core.specs.Place.{Spot}
+use Rattle.value_core.specs.Texts.{bool_text, quoted}
 use Rattle.sexpr_reader.specs.declared.form.Form.{Form}
 use Rattle.sexpr_reader.specs.declared.form.FormKind.{FormKind, the_lemmas}
 use Rattle.sexpr_reader.specs.declared.form.FormKind.TheVariants as form
@@ -13,7 +14,7 @@ use Rattle.sexpr_reader.specs.declared.token.Atom.TheVariants as single
 use Rattle.sexpr_reader.specs.Cursor.{start}
 use Rattle.sexpr_reader.specs.Forms.{form_at, group_kind, atom_kind}
 use Rattle.sexpr_reader.specs.Places.{without_places}
-use Rattle.sexpr_reader.specs.Spelling.{quoted, grouped, bool_text, kind_text, form_text}
+use Rattle.sexpr_reader.specs.Spelling.{grouped, kind_text, form_text}
 
 pub kind_text-Str : (text : List ℕ) → kind_text (form.Str text) ≡ quoted text
 kind_text-Str text = search (rules, the_lemmas)

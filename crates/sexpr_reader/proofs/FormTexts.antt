@@ -1,8 +1,9 @@
 -- The text of the forms of a source spells them again, places aside.
 use Rattle.std.proofs.Common.{◌≡◌, ◌≢◌, ◌<◌, ℕ, suc, Bool, true, false, List, [], ◌∷◌, ◌++◌, map, refl, sym, ◌∙◌, ap, subst, arith, append_assoc, append-nil}
-use Rattle.std.specs.Prelude.{None}
+use Rattle.std.specs.Prelude.{None, codes}
 use Rattle.std.proofs.lemmas.Bool.Decides.{nat_tests}
 use Rattle.value_core.specs.Place.{Spot}
+use Rattle.value_core.proofs.Joined.{joined-left_at, left_at}
 use Rattle.sexpr_reader.specs.declared.form.Form.{Form}
 use Rattle.sexpr_reader.specs.declared.group.Group.{Group}
 use Rattle.sexpr_reader.specs.declared.group.Group.TheVariants.{List as ListGroup, Vector, Map, At}
@@ -24,7 +25,6 @@ use Rattle.sexpr_reader.proofs.AtomTexts.{ReadsAs, atom_again}
 use Rattle.sexpr_reader.proofs.FormFolds.{kind_text-List, kind_text-Vector, kind_text-Map, kind_text-At, form_text-at, without_places-atom, without_places-group}
 use Rattle.sexpr_reader.proofs.Found.{cursor, byte_on}
 use Rattle.sexpr_reader.proofs.Same.{no_gap}
-use Rattle.sexpr_reader.proofs.Spaces.{left_at, spaced-left_at}
 
 -- what follows a gap follows more of it
 gap_gap : {b c d : Cursor} → Gap b c → Gap c d → Gap b d
@@ -107,17 +107,17 @@ closes_as g at b rest is = rw is (Begins.closing g (record { byte = b; over = by
 record AgainAll (k : ℕ) (is_first : Bool) (forms : List Form) (at : Spot) (rest : List ℕ) : Type 0 where
   again : List Form
   behind : Spot
-  are : AreForms k (cursor at (left_at is_first (map form_text forms) ++ rest)) again (cursor behind rest)
+  are : AreForms k (cursor at (left_at (codes " ") is_first (map form_text forms) ++ rest)) again (cursor behind rest)
   same : map without_places again ≡ map without_places forms
 
 bracket_form : (k : ℕ) (spot : Spot) (g : Group) (parts : List Form) (b : Bracket g) → k < nest_limit → g ≢ At → (at : Spot) (rest : List ℕ)
     → AgainAll (suc k) true parts (next_spot at b.opens) (b.closes ∷ rest) → Again k (form_at spot (group_kind g parts)) at rest
 bracket_form k spot g parts b below n at rest r =
-    let inner = left_at true (map form_text parts) in
+    let inner = left_at (codes " ") true (map form_text parts) in
     let opening = opens_as g at b.opens (inner ++ b.closes ∷ rest) (b.open_lead (inner ++ b.closes ∷ rest)) in
     let closing = closes_as g r.behind b.closes rest (b.close_lead rest) in
     let text : form_text (form_at spot (group_kind g parts)) ++ rest ≡ b.opens ∷ (inner ++ b.closes ∷ rest) =
-    ap (λ x. x ++ rest) (form_text-at spot (group_kind g parts) ∙ b.text parts) ∙ ap (λ x. b.opens ∷ ((x ++ b.closes ∷ []) ++ rest)) (spaced-left_at (map form_text parts))
+    ap (λ x. x ++ rest) (form_text-at spot (group_kind g parts) ∙ b.text parts) ∙ ap (λ x. b.opens ∷ ((x ++ b.closes ∷ []) ++ rest)) (joined-left_at (codes " ") (map form_text parts))
     ∙ ap (λ x. b.opens ∷ x) (append_assoc inner (b.closes ∷ []) rest) in
     record {
       again = form_at at (group_kind g r.again);
@@ -144,13 +144,13 @@ sign_form k spot part below at rest r =
     }
 
 -- a space or what comes behind the parts ends a word
-ends_word : (forms : List Form) (rest : List ℕ) → begins is_word_byte rest ≡ false → begins is_word_byte (left_at false (map form_text forms) ++ rest) ≡ false
+ends_word : (forms : List Form) (rest : List ℕ) → begins is_word_byte rest ≡ false → begins is_word_byte (left_at (codes " ") false (map form_text forms) ++ rest) ≡ false
 ends_word [] rest ends = ends
 ends_word (f ∷ fs) rest ends = refl
 
-more_forms : {k : ℕ} (f : Form) (fs : List Form) (at : Spot) (rest : List ℕ) (r : Again k f at (left_at false (map form_text fs) ++ rest)) → AgainAll k false fs r.behind rest → AgainAll k true (f ∷ fs) at rest
+more_forms : {k : ℕ} (f : Form) (fs : List Form) (at : Spot) (rest : List ℕ) (r : Again k f at (left_at (codes " ") false (map form_text fs) ++ rest)) → AgainAll k false fs r.behind rest → AgainAll k true (f ∷ fs) at rest
 more_forms f fs at rest r q =
-    let tail = left_at false (map form_text fs) in
+    let tail = left_at (codes " ") false (map form_text fs) in
     let text : (form_text f ++ tail) ++ rest ≡ form_text f ++ (tail ++ rest) = append_assoc (form_text f) tail rest in
     record {
       again = r.again ∷ q.again;
@@ -159,9 +159,9 @@ more_forms f fs at rest r q =
       same = ap (λ x. x ∷ map without_places q.again) r.same ∙ ap (λ x. without_places f ∷ x) q.same;
     }
 
-spaced_forms : {k : ℕ} (f : Form) (fs : List Form) (at : Spot) (rest : List ℕ) (r : Again k f (next_spot at 32) (left_at false (map form_text fs) ++ rest)) → AgainAll k false fs r.behind rest → AgainAll k false (f ∷ fs) at rest
+spaced_forms : {k : ℕ} (f : Form) (fs : List Form) (at : Spot) (rest : List ℕ) (r : Again k f (next_spot at 32) (left_at (codes " ") false (map form_text fs) ++ rest)) → AgainAll k false fs r.behind rest → AgainAll k false (f ∷ fs) at rest
 spaced_forms f fs at rest r q =
-    let tail = left_at false (map form_text fs) in
+    let tail = left_at (codes " ") false (map form_text fs) in
     let text : (form_text f ++ tail) ++ rest ≡ form_text f ++ (tail ++ rest) = append_assoc (form_text f) tail rest in
     let gap = white_gap at 32 (form_text f ++ (tail ++ rest)) refl r.first in
     record {
@@ -184,10 +184,10 @@ mutual
   forms_again : {k : ℕ} {c d : Cursor} {fs : List Form} → AreForms k c fs d → (is_first : Bool) (at : Spot) (rest : List ℕ) → begins is_word_byte rest ≡ false → AgainAll k is_first fs at rest
   forms_again AreForms.none is_first at rest ends = record { again = []; behind = at; are = AreForms.none; same = refl }
   forms_again (AreForms.more {f} {fs} is others) true at rest ends =
-      let r = form_again is at (left_at false (map form_text fs) ++ rest) (ends_word fs rest ends) in
+      let r = form_again is at (left_at (codes " ") false (map form_text fs) ++ rest) (ends_word fs rest ends) in
       more_forms f fs at rest r (forms_again others false r.behind rest ends)
   forms_again (AreForms.more {f} {fs} is others) false at rest ends =
-      let r = form_again is (next_spot at 32) (left_at false (map form_text fs) ++ rest) (ends_word fs rest ends) in
+      let r = form_again is (next_spot at 32) (left_at (codes " ") false (map form_text fs) ++ rest) (ends_word fs rest ends) in
       spaced_forms f fs at rest r (forms_again others false r.behind rest ends)
 
 -- the lines of a spelling

@@ -11,7 +11,6 @@ pub mod Lexing
 pub mod Refusals
 pub mod Runs
 pub mod Same
-pub mod Spaces
 pub mod SpelledTexts
 pub mod Texts
 pub mod Unique

@@ -1,7 +1,10 @@
 -- The spelling of the forms of a source is a source of the same forms, places aside.
 use Rattle.std.proofs.Common.{◌≡◌, ◌≤◌, ℕ, Bool, true, false, List, [], ◌∷◌, ◌++◌, length, map, subst, arith}
+use Rattle.std.specs.Prelude.{codes}
 use Rattle.std.specs.Str.{IsUtf8}
 use Rattle.std.proofs.lemmas.Str.{IsUtf8-nil, IsUtf8-append}
+use Rattle.value_core.specs.Texts.{joined}
+use Rattle.value_core.proofs.Joined.{joined-left_at, left_at}
 use Rattle.sexpr_reader.specs.declared.form.Form.{Form}
 use Rattle.sexpr_reader.specs.declared.group.Group.{Group}
 use Rattle.sexpr_reader.specs.declared.group.Group.TheVariants.{List as ListGroup, Vector, Map, At}
@@ -10,37 +13,36 @@ use Rattle.sexpr_reader.specs.Forms.{group_kind, IsForm, AreForms}
 use Rattle.sexpr_reader.specs.Grammar.{IsSource}
 use Rattle.sexpr_reader.specs.Limits.{source_limit}
 use Rattle.sexpr_reader.specs.Places.{without_places}
-use Rattle.sexpr_reader.specs.Spelling.{spaced, grouped, kind_text, form_text, spelling}
+use Rattle.sexpr_reader.specs.Spelling.{grouped, kind_text, form_text, spelling}
 use Rattle.sexpr_reader.proofs.FormFolds.{kind_text-List, kind_text-Vector, kind_text-Map, kind_text-At, form_text-at}
 use Rattle.sexpr_reader.proofs.FormTexts.{lines_again}
-use Rattle.sexpr_reader.proofs.Spaces.{left_at, spaced-left_at}
 use Rattle.sexpr_reader.proofs.Texts.{HasText, ascii_then, token_takes}
 
 abbrev AreTexts : List Form → Type 0
 AreTexts [] = Unit {0}
 AreTexts (f ∷ fs) = IsUtf8 (form_text f) × AreTexts fs
 
-left_text : (is_first : Bool) (forms : List Form) → AreTexts forms → IsUtf8 (left_at is_first (map form_text forms))
+left_text : (is_first : Bool) (forms : List Form) → AreTexts forms → IsUtf8 (left_at (codes " ") is_first (map form_text forms))
 left_text is_first [] h = IsUtf8-nil
-left_text true (f ∷ fs) h = IsUtf8-append (form_text f) (left_at false (map form_text fs)) h.0 (left_text false fs h.1)
+left_text true (f ∷ fs) h = IsUtf8-append (form_text f) (left_at (codes " ") false (map form_text fs)) h.0 (left_text false fs h.1)
 left_text false (f ∷ fs) h =
-    ascii_then 32 (form_text f ++ left_at false (map form_text fs)) (omega arith) (IsUtf8-append (form_text f) (left_at false (map form_text fs)) h.0 (left_text false fs h.1))
+    ascii_then 32 (form_text f ++ left_at (codes " ") false (map form_text fs)) (omega arith) (IsUtf8-append (form_text f) (left_at (codes " ") false (map form_text fs)) h.0 (left_text false fs h.1))
 
-spaced_text : (parts : List Form) → AreTexts parts → IsUtf8 (spaced (map form_text parts))
-spaced_text parts h = rw (spaced-left_at (map form_text parts)) (left_text true parts h)
+joined_text : (parts : List Form) → AreTexts parts → IsUtf8 (joined (codes " ") (map form_text parts))
+joined_text parts h = rw (joined-left_at (codes " ") (map form_text parts)) (left_text true parts h)
 
 bracket_text : (opens closes : ℕ) (parts : List Form) → opens ≤ 127 → closes ≤ 127 → AreTexts parts → IsUtf8 (grouped (opens ∷ []) (closes ∷ []) (map form_text parts))
 bracket_text opens closes parts low small h =
-    let body = spaced (map form_text parts) in
-    ascii_then opens (body ++ closes ∷ []) (omega arith) (IsUtf8-append body (closes ∷ []) (spaced_text parts h) (ascii_then closes [] (omega arith) IsUtf8-nil))
+    let body = joined (codes " ") (map form_text parts) in
+    ascii_then opens (body ++ closes ∷ []) (omega arith) (IsUtf8-append body (closes ∷ []) (joined_text parts h) (ascii_then closes [] (omega arith) IsUtf8-nil))
 
 group_text : (g : Group) (parts : List Form) → AreTexts parts → IsUtf8 (kind_text (group_kind g parts))
 group_text ListGroup parts h = rw (kind_text-List parts) (bracket_text 40 41 parts (omega arith) (omega arith) h)
 group_text Vector parts h = rw (kind_text-Vector parts) (bracket_text 91 93 parts (omega arith) (omega arith) h)
 group_text Map parts h = rw (kind_text-Map parts) (bracket_text 123 125 parts (omega arith) (omega arith) h)
 group_text At parts h =
-    let body = spaced (map form_text parts) in
-    rw (kind_text-At parts) (ascii_then 64 (body ++ []) (omega arith) (IsUtf8-append body [] (spaced_text parts h) IsUtf8-nil))
+    let body = joined (codes " ") (map form_text parts) in
+    rw (kind_text-At parts) (ascii_then 64 (body ++ []) (omega arith) (IsUtf8-append body [] (joined_text parts h) IsUtf8-nil))
 
 record Text (form : Form) (d : Cursor) : Type 0 where
   text : IsUtf8 (form_text form)

@@ -13,6 +13,7 @@ use Rattle.std.proofs.lemmas.Fmt.{IsAscii-signed}
 use Rattle.std.proofs.lemmas.Grind.{flat_map-append}
 use Rattle.std.proofs.lemmas.Str.{IsUtf8-nil, IsUtf8-append, IsUtf8-from_ascii, IsUtf8-past_char, IsUtf8-drop, IsUtf8-encode, IsCharBoundary-before_ascii, encode_ascii, inside_one, length-encode, len_utf8_bounds}
 use Rattle.std.proofs.lemmas.Str.Ascii.{IsAscii-nil, IsAscii-cons}
+use Rattle.value_core.specs.Texts.{escaped, quoted}
 use Rattle.sexpr_reader.specs.declared.lead.Lead.{Lead}
 use Rattle.sexpr_reader.specs.declared.lead.Lead.TheVariants as lead
 use Rattle.sexpr_reader.specs.declared.token.Token.{Token}
@@ -24,7 +25,7 @@ use Rattle.sexpr_reader.specs.Forms.{atom_kind}
 use Rattle.sexpr_reader.specs.Gap.{Gap}
 use Rattle.sexpr_reader.specs.Lead.{begins, lead_of, byte_lead, is_sign, is_white_space}
 use Rattle.sexpr_reader.specs.Names.{IsName}
-use Rattle.sexpr_reader.specs.Spelling.{escaped, quoted, kind_text}
+use Rattle.sexpr_reader.specs.Spelling.{kind_text}
 use Rattle.sexpr_reader.specs.Strings.{unescaped, Written, Content}
 use Rattle.sexpr_reader.specs.Tokens.{OneByte, Begins, IsToken}
 use Rattle.sexpr_reader.proofs.AtomTexts.{EscapedAs, escaped_as, named_text}

@@ -1,39 +1,16 @@
 -- How forms are written.
-use Rattle.std.specs.Prelude.{ℕ, ◌==◌, Bool, true, false, if◌then◌else◌, List, [], ◌∷◌, ◌++◌, codes}
+use Rattle.std.specs.Prelude.{ℕ, List, [], ◌++◌, codes}
 use Rattle.std.specs.Fmt.{signed_decimal}
 use Rattle.std.specs.List.{flat_map}
+use Rattle.value_core.specs.Texts.{bool_text, joined, quoted}
 use Rattle.sexpr_reader.specs.declared.form.Form.{Form}
 use Rattle.sexpr_reader.specs.declared.form.FormKind.{FormKind}
 use Rattle.sexpr_reader.specs.declared.form.FormKind.TheOpen as one
 use Rattle.sexpr_reader.specs.declared.form.FormKind.TheFolds.{fold-Form, fold-FormKind}
 
--- the parts one after another, with one space between them
-abbrev pub spaced : List (List ℕ) → List ℕ
-spaced [] = []
-spaced (text ∷ []) = text
-spaced (text ∷ next ∷ texts) = text ++ codes " " ++ spaced (next ∷ texts)
-
--- the byte as it stands in a string: seven bytes have an escape
-abbrev pub escaped : ℕ → List ℕ
-escaped b =
-    if b == 34 then codes "\\\""
-    else (if b == 92 then codes "\\\\"
-    else (if b == 10 then codes "\\n"
-    else (if b == 9 then codes "\\t"
-    else (if b == 13 then codes "\\r"
-    else (if b == 12 then codes "\\f"
-    else (if b == 8 then codes "\\b"
-    else b ∷ []))))))
-
-abbrev pub quoted : List ℕ → List ℕ
-quoted text = codes "\"" ++ flat_map escaped text ++ codes "\""
-
-abbrev pub bool_text : Bool → List ℕ
-bool_text true = codes "true"
-bool_text false = codes "false"
-
+-- the parts one after another with one space between them, and what stands round them
 abbrev pub grouped : List ℕ → List ℕ → List (List ℕ) → List ℕ
-grouped opens closes parts = opens ++ spaced parts ++ closes
+grouped opens closes parts = opens ++ joined (codes " ") parts ++ closes
 
 -- one level of a form, with the text of each part in its place
 abbrev pub kind_step : one.FormKind-F (List ℕ) (List ℕ) → List ℕ

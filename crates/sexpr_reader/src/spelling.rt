@@ -1,11 +1,10 @@
-ghost use Rattle.std.specs.Prelude.{◌≡◌, ◌==◌, if◌then◌else◌, [], ◌++◌, map, codes, IfOk};
-ghost use Rattle.std.specs.Fmt.{signed_decimal};
-ghost use Rattle.sexpr_reader.specs.Spelling.{spaced, escaped, quoted, bool_text, grouped, kind_text, form_text, spelling};
+ghost use Rattle.std.specs.Prelude.{◌≡◌, ◌++◌, map, codes, IfOk};
+ghost use Rattle.sexpr_reader.specs.Spelling.{grouped, kind_text, form_text, spelling};
 
 use crate::form::{Form, FormKind, Forms};
-use itoa::Buffer;
 use std::alloc::{AllocError, Global};
 use value_core::Text;
+use value_core::text_writing::{push_bool, push_int, push_keyword, push_quoted, push_separator};
 
 /// The text of the forms: one per line, and one space between parts.
 pub fn spell(alloc: Global, forms: &Forms) -> Result<Text, AllocError>
@@ -49,67 +48,8 @@ fn push_parts(text: &mut Text, parts: &Forms, opens: &[u8], closes: &[u8]) -> Re
 {
     text.extend(opens)?;
     for (index, part) in parts.items().iter().enumerate() {
-        separate(text, index)?;
+        push_separator(text, index, b" ")?;
         push_form(text, part)?;
     }
     text.extend(closes)
-}
-
-// Writes a space, but not before the first of some parts.
-fn separate(text: &mut Text, index: usize) -> Result<(), AllocError>
-    ensures { IfOk result (λ _. text.new ≡ text.old ++ (if index == 0 then [] else codes " ")) }
-{
-    if index == 0 {
-        return Ok(());
-    }
-    text.extend(b" ")
-}
-
-fn push_bool(text: &mut Text, value: bool) -> Result<(), AllocError>
-    ensures { IfOk result (λ _. text.new ≡ text.old ++ bool_text value) }
-{
-    if value {
-        text.extend(b"true")
-    } else {
-        text.extend(b"false")
-    }
-}
-
-fn push_int(text: &mut Text, value: i64) -> Result<(), AllocError>
-    ensures { IfOk result (λ _. text.new ≡ text.old ++ signed_decimal value) }
-{
-    let mut buffer = Buffer::new();
-    text.extend(buffer.format(value).as_bytes())
-}
-
-fn push_keyword(text: &mut Text, name: &Text) -> Result<(), AllocError>
-    ensures { IfOk result (λ _. text.new ≡ text.old ++ (codes ":" ++ name.now)) }
-{
-    text.extend(b":")?;
-    text.extend(name.items())
-}
-
-fn push_quoted(text: &mut Text, string: &[u8]) -> Result<(), AllocError>
-    ensures { IfOk result (λ _. text.new ≡ text.old ++ quoted string.now) }
-{
-    text.extend(b"\"")?;
-    for byte in string {
-        push_escaped(text, *byte)?;
-    }
-    text.extend(b"\"")
-}
-
-fn push_escaped(text: &mut Text, byte: u8) -> Result<(), AllocError>
-    ensures { IfOk result (λ _. text.new ≡ text.old ++ escaped byte) }
-{
-    match byte {
-        b'"' => text.extend(b"\\\""),
-        b'\\' => text.extend(b"\\\\"),
-        b'\n' => text.extend(b"\\n"),
-        b'\t' => text.extend(b"\\t"),
-        b'\r' => text.extend(b"\\r"),
-        12 => text.extend(b"\\f"),
-        8 => text.extend(b"\\b"),
-        other => text.extend(&[other]),
-    }
 }

@@ -2,8 +2,6 @@
 #![tactic(auto)]
 
 pub mod acts;
-mod copies;
 mod log;
 
-pub use copies::copy_effect;
 pub use log::TaskLog;

@@ -5,7 +5,6 @@ ghost use Rattle.serial_model.specs.declared.effect.Effect.{Effect as Effecting}
 ghost use Rattle.task_log.specs.Logged.{mark_of};
 ghost use Rattle.value_core.specs.Named.{is_among, named, over, made_by, with_name, Rises};
 
-use crate::copies::copy_effect;
 use serial_model::{Effect, What};
 use std::alloc::{AllocError, Global};
 use std::collections::{BTreeMap, BTreeSet};
@@ -212,7 +211,7 @@ impl TaskLog {
         if self.holds(&mark) {
             return Ok(());
         }
-        self.append(mark, copy_effect(alloc, effect)?)
+        self.append(mark, effect.copy(alloc)?)
     }
 
     /// Whether an effect with that mark is there.

@@ -5,7 +5,7 @@ ghost use Rattle.tentative_turn.specs.Turn.{answered_ahead, things_made, IsBegun
 ghost use Rattle.tentative_turn.specs.declared.held_effect.HeldEffect.TheVariants as held;
 
 use crate::ahead::Ahead;
-use crate::copies::{copy_answer, copy_effects};
+use crate::copies::copy_effects;
 use crate::foretelling::{count_made, foretell};
 use crate::held_effect::{HeldEffect, hold_last};
 use serial_model::{Answer, Entry, Request};
@@ -122,7 +122,7 @@ fn hold(
     ensures same_made { OnErr result (made.new ≡ made.old) }
     ensures same_held { OnErr result (effects.new.items ≡ effects.old.items) }
 {
-    let given = copy_answer(alloc, &answer)?;
+    let given = answer.copy(alloc)?;
     let count = made.checked_add(count_made(&request)).ok_or(AllocError)?;
     hold_last(effects, HeldEffect::Asked(request, answer))?;
     *made = count;

@@ -2,6 +2,7 @@
 use Rattle.std.proofs.Common.{◌≡◌, ℕ, ◌<◌, List, ◌∷◌, ◌++◌, sym, ap, subst, ◌∙◌, arith, inl, inr, append_assoc}
 use Rattle.std.specs.Fmt.{decimal}
 use Rattle.std.specs.Prelude.{codes}
+use Rattle.value_core.specs.FaultCodes.{code_number}
 use Rattle.value_core.specs.Name.{name_text}
 use Rattle.value_core.specs.NameText.{read_on}
 use Rattle.value_core.specs.Place.{Spot}
@@ -11,7 +12,7 @@ use Rattle.serial_model.specs.declared.end.End.TheVariants.{Done, Fault, Spent, 
 use Rattle.serial_model.specs.declared.entry.Entry.{Entry}
 use Rattle.serial_model.specs.declared.entry.Entry.TheVariants.{Run, Take}
 use Rattle.serial_model.specs.Limits.{Budget, IsInRange}
-use Rattle.serial_model.specs.Trace.{IsName, code_number, place_text}
+use Rattle.serial_model.specs.Trace.{IsName, place_text}
 use Rattle.trace_text.specs.Cut.{IsCut}
 use Rattle.trace_text.specs.Lines.{IsEntryText, IsEndText, IsLimitsText, IsNoLine}
 use Rattle.trace_text.proofs.Deciding.{Begins, Either, begins, is_less, is_name, is_number, is_pair, is_same}

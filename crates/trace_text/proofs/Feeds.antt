@@ -2,6 +2,7 @@
 use Rattle.std.proofs.Common.{◌≡◌, ℕ, ◌<◌, ◌^◌, true, List, ◌++◌, refl, arith, inl}
 use Rattle.std.specs.Fmt.{decimal}
 use Rattle.std.specs.Prelude.{codes}
+use Rattle.value_core.specs.FaultCodes.{code_number}
 use Rattle.value_core.specs.Name.{name_text}
 use Rattle.value_core.specs.Place.{Spot}
 use Rattle.serial_model.specs.declared.end.End.{End}
@@ -9,7 +10,7 @@ use Rattle.serial_model.specs.declared.end.End.TheVariants.{Done, Fault, Spent, 
 use Rattle.serial_model.specs.declared.entry.Entry.{Entry}
 use Rattle.serial_model.specs.declared.entry.Entry.TheVariants.{Run, Take}
 use Rattle.serial_model.specs.Limits.{Budget, IsInRange}
-use Rattle.serial_model.specs.Trace.{IsEnd, IsEntry, IsName, IsPlace, code_number, end_text, entry_text, limits_text, place_text}
+use Rattle.serial_model.specs.Trace.{IsEnd, IsEntry, IsName, IsPlace, end_text, entry_text, limits_text, place_text}
 use Rattle.trace_text.specs.Cut.{is_without}
 use Rattle.trace_text.proofs.Cuts.{without_append}
 use Rattle.trace_text.proofs.Digits.{decimal_without, name_without}

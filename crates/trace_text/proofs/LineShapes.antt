@@ -3,12 +3,13 @@ use Rattle.std.proofs.Common.{◌≡◌, ◌≢◌, ℕ, List, ◌∷◌, ◌++�
 use Rattle.std.specs.Fmt.{decimal}
 use Rattle.std.specs.Prelude.{codes, nat_eq}
 use Rattle.std.proofs.lemmas.Bool.Decides.{nat_tests}
+use Rattle.value_core.specs.FaultCodes.{code_number}
 use Rattle.value_core.specs.Name.{name_text, IsTextOf}
 use Rattle.serial_model.specs.declared.end.End.{End}
 use Rattle.serial_model.specs.declared.end.End.TheVariants.{Done, Fault, Spent, UnitsSpent}
 use Rattle.serial_model.specs.declared.entry.Entry.{Entry}
 use Rattle.serial_model.specs.declared.entry.Entry.TheVariants.{Run, Take}
-use Rattle.serial_model.specs.Trace.{code_number, place_text}
+use Rattle.serial_model.specs.Trace.{place_text}
 use Rattle.trace_text.specs.Lines.{IsEntryText, IsEndText, IsNoLine}
 use Rattle.trace_text.proofs.Pairs.{IsPair}
 use Rattle.trace_text.proofs.Shapes.{IsCode, IsNameWord, IsPlaceWord, name_word}

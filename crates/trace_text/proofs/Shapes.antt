@@ -3,12 +3,13 @@ use Rattle.std.proofs.Common.{◌≡◌, ◌≢◌, ℕ, ◌<◌, ◌≤◌, ◌
 use Rattle.std.specs.Fmt.{decimal}
 use Rattle.std.specs.Prelude.{codes}
 use Rattle.std.proofs.lemmas.Fmt.{decimal_injective}
+use Rattle.value_core.specs.FaultCodes.{code_number}
 use Rattle.value_core.specs.Name.{name_text, IsTextOf}
 use Rattle.value_core.specs.declared.code.Code.{Code}
 use Rattle.value_core.specs.declared.code.Code.TheVariants as code
 use Rattle.value_core.specs.Place.{Spot}
 use Rattle.serial_model.specs.Limits.{Budget, IsInRange}
-use Rattle.serial_model.specs.Trace.{IsName, IsPlace, code_number, place_text}
+use Rattle.serial_model.specs.Trace.{IsName, IsPlace, place_text}
 use Rattle.trace_text.specs.Cut.{IsCut, is_without}
 use Rattle.trace_text.specs.Lines.{IsCodeText, IsLimitsText, IsNumberText, IsPlaceText}
 use Rattle.trace_text.proofs.Cuts.{cut_once, without_append, without_more}

@@ -4,6 +4,7 @@ use Rattle.std.specs.Fmt.{decimal}
 use Rattle.std.specs.Prelude.{codes, ◌==◌, if◌then◌else◌}
 use Rattle.std.proofs.lemmas.Fmt.{decimal_injective}
 use Rattle.std.proofs.lemmas.List.{take-take}
+use Rattle.value_core.specs.FaultCodes.{code_number}
 use Rattle.value_core.specs.Name.{name_text}
 use Rattle.value_core.specs.Place.{Spot}
 use Rattle.value_core.specs.declared.code.Code.{Code}
@@ -17,7 +18,7 @@ use Rattle.serial_model.specs.declared.trace.Trace.{Trace}
 use Rattle.serial_model.specs.declared.trace.LineKind.{LineKind}
 use Rattle.serial_model.specs.declared.trace.LineKind.TheVariants.{BadLine, TooLong}
 use Rattle.serial_model.specs.Limits.{Budget, IsInRange}
-use Rattle.serial_model.specs.Trace.{FitsUpTo, IsEnd, IsEntry, IsName, IsPlace, IsTextOfTrace, IsTrace, code_number, end_text, entry_text, limits_text, lines_of, place_text, trace_refusal, trace_text}
+use Rattle.serial_model.specs.Trace.{FitsUpTo, IsEnd, IsEntry, IsName, IsPlace, IsTextOfTrace, IsTrace, end_text, entry_text, limits_text, lines_of, place_text, trace_refusal, trace_text}
 use Rattle.trace_text.specs.Cut.{is_without}
 use Rattle.trace_text.specs.Same.{IsSameTrace}
 use Rattle.trace_text.proofs.Cuts.{cut_once}

@@ -1,11 +1,12 @@
 -- What a line, or a word of one, writes.
 use Rattle.std.specs.Prelude.{◌≡◌, ℕ, ◌<◌, ◌^◌, List, decimal}
+use Rattle.value_core.specs.FaultCodes.{code_number}
 use Rattle.value_core.specs.declared.code.Code.{Code}
 use Rattle.value_core.specs.Place.{Spot}
 use Rattle.serial_model.specs.declared.end.End.{End}
 use Rattle.serial_model.specs.declared.entry.Entry.{Entry}
 use Rattle.serial_model.specs.Limits.{Budget, IsInRange}
-use Rattle.serial_model.specs.Trace.{IsEntry, IsEnd, IsPlace, code_number, end_text, entry_text, limits_text, place_text}
+use Rattle.serial_model.specs.Trace.{IsEntry, IsEnd, IsPlace, end_text, entry_text, limits_text, place_text}
 use Rattle.trace_text.specs.declared.line.Line.{Line}
 use Rattle.trace_text.specs.declared.line.Line.TheVariants as line
 

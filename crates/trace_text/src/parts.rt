@@ -1,8 +1,8 @@
 ghost use Rattle.std.specs.Prelude.{◌≡◌, ◌≢◌, Err, IfOk, IfSome, IsNone};
 ghost use Rattle.value_core.specs.declared.code.Code.{Code};
+ghost use Rattle.value_core.specs.FaultCodes.{code_number};
 ghost use Rattle.value_core.specs.Place.{Spot};
 ghost use Rattle.serial_model.specs.Limits.{Budget};
-ghost use Rattle.serial_model.specs.Trace.{code_number};
 ghost use Rattle.trace_text.specs.Lines.{IsCodeText, IsLimitsText, IsPlaceText};
 
 use crate::cut::{after_prefix, cut};

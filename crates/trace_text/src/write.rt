@@ -1,7 +1,7 @@
 ghost use Rattle.std.specs.Prelude.{◌≡◌, ◌<◌, ◌^◌, ◌++◌, All, flat_map, IfOk, OnOk};
 ghost use Rattle.value_core.specs.Name.{IsTextOf};
 ghost use Rattle.serial_model.specs.Limits.{IsInRange};
-ghost use Rattle.serial_model.specs.Trace.{IsEnd, IsEntry, IsTrace, code_number, end_text, entry_text, limits_text, line_of, trace_text};
+ghost use Rattle.serial_model.specs.Trace.{IsEnd, IsEntry, IsTrace, end_text, entry_text, limits_text, line_of, trace_text};
 
 use itoa::Buffer;
 use serial_model::{End, Entry, Limits, Trace};
@@ -90,7 +90,7 @@ fn push_fault(
         text,
         &[
             b"end fault ",
-            number.format(code_number(code)).as_bytes(),
+            number.format(code.number()).as_bytes(),
             b" ",
             line.format(at.line()).as_bytes(),
             b":",
@@ -113,24 +113,6 @@ fn name_text(alloc: Global, name: &Name) -> Result<Text, AllocError>
 fn are_in_range(numbers: &[u32])
     ensures { All (λ number. number < 2 ^ 32) numbers.now }
 {}
-
-/// The position of a fault code.
-fn code_number(code: Code) -> u8
-    ensures { result ≡ code_number code }
-{
-    match code {
-        Code::WrongType => 1,
-        Code::DivideByZero => 2,
-        Code::Overflow => 3,
-        Code::Index => 4,
-        Code::NoTransaction => 5,
-        Code::NoTurn => 6,
-        Code::FutureEscapes => 7,
-        Code::ForkTooDeep => 8,
-        Code::TooDeep => 9,
-        Code::MessageArity => 10,
-    }
-}
 
 /// Appends a line of these pieces.
 fn push_line(text: &mut Text, pieces: &[&[u8]]) -> Result<(), AllocError>

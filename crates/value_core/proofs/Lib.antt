@@ -1,5 +1,6 @@
 pub mod Crossing
 pub mod Induction
+pub mod Joined
 pub mod KeyOrder
 pub mod NamedLaws
 pub mod NamedViews

@@ -1,4 +1,5 @@
 pub mod Depth
+pub mod FaultCodes
 pub mod formers
 pub mod Futures
 pub mod Key

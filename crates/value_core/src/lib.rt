@@ -19,6 +19,7 @@ mod places;
 mod reserved;
 mod seq;
 mod style;
+pub mod text_writing;
 mod ticket;
 mod value;
 

@@ -1,10 +1,9 @@
-ghost use Rattle.std.specs.Prelude.{◌≡◌, ◌==◌, if◌then◌else◌, [], ◌∷◌, ◌++◌, map, codes, IfOk};
-ghost use Rattle.std.specs.Fmt.{signed_decimal};
+ghost use Rattle.std.specs.Prelude.{◌≡◌, [], ◌++◌, map, codes, IfOk};
 ghost use Rattle.std.specs.List.{flat_map};
-ghost use Rattle.value_core.specs.Texts.{joined, escaped, quoted, string_text, bool_text, key_text, value_text, line_of, str_piece, str_text};
+ghost use Rattle.value_core.specs.Texts.{joined, string_text, key_text, value_text, line_of, str_piece, str_text};
 
-use itoa::Buffer;
 use std::alloc::{AllocError, Global};
+use value_core::text_writing::{push_bool, push_int, push_keyword, push_quoted, push_separator};
 use value_core::{Key, Pairs, Seq, Style, Text, Value, Values};
 
 /// The line of some values: their plain texts with one space between them, and a line feed.
@@ -13,7 +12,7 @@ pub fn print_line(alloc: Global, args: &[Value]) -> Result<Text, AllocError>
 {
     let mut text = Seq::new(alloc);
     for (index, value) in args.iter().enumerate() {
-        separate(&mut text, index, b" ")?;
+        push_separator(&mut text, index, b" ")?;
         push_value(&mut text, Style::Plain, value)?;
     }
     text.extend(b"\n")?;
@@ -50,18 +49,8 @@ fn push_str_piece(text: &mut Text, value: &Value) -> Result<(), AllocError>
     }
 }
 
-// Writes the separator, but not before the first of some texts.
-fn separate(text: &mut Text, index: usize, separator: &[u8]) -> Result<(), AllocError>
-    ensures { IfOk result (λ _. text.new ≡ text.old ++ (if index == 0 then [] else separator.now)) }
-{
-    if index == 0 {
-        return Ok(());
-    }
-    text.extend(separator)
-}
-
 #[cycle(print)]
-#[tactic(auto, using(crate::proofs::Joins::value_text_map))]
+#[tactic(auto, using(crate::proofs::MapTexts::value_text_map))]
 fn push_value(text: &mut Text, style: Style, value: &Value) -> Result<(), AllocError>
     ensures { IfOk result (λ _. text.new ≡ text.old ++ value_text style value.now) }
 {
@@ -85,7 +74,7 @@ fn push_vector(text: &mut Text, style: Style, items: &Values) -> Result<(), Allo
 {
     text.extend(b"[")?;
     for (index, item) in items.items().iter().enumerate() {
-        separate(text, index, b" ")?;
+        push_separator(text, index, b" ")?;
         push_value(text, style, item)?;
     }
     text.extend(b"]")
@@ -97,7 +86,7 @@ fn push_map(text: &mut Text, style: Style, pairs: &Pairs) -> Result<(), AllocErr
 {
     text.extend(b"{")?;
     for (index, pair) in pairs.items().iter().enumerate() {
-        separate(text, index, b", ")?;
+        push_separator(text, index, b", ")?;
         push_key(text, style, &pair.key)?;
         text.extend(b" ")?;
         push_value(text, style, &pair.value)?;
@@ -116,60 +105,11 @@ fn push_key(text: &mut Text, style: Style, key: &Key) -> Result<(), AllocError>
     }
 }
 
-fn push_bool(text: &mut Text, value: bool) -> Result<(), AllocError>
-    ensures { IfOk result (λ _. text.new ≡ text.old ++ bool_text value) }
-{
-    if value {
-        text.extend(b"true")
-    } else {
-        text.extend(b"false")
-    }
-}
-
-fn push_int(text: &mut Text, value: i64) -> Result<(), AllocError>
-    ensures { IfOk result (λ _. text.new ≡ text.old ++ signed_decimal value) }
-{
-    let mut buffer = Buffer::new();
-    text.extend(buffer.format(value).as_bytes())
-}
-
-fn push_keyword(text: &mut Text, name: &Text) -> Result<(), AllocError>
-    ensures { IfOk result (λ _. text.new ≡ text.old ++ (codes ":" ++ name.now)) }
-{
-    text.extend(b":")?;
-    text.extend(name.items())
-}
-
 fn push_string(text: &mut Text, style: Style, string: &Text) -> Result<(), AllocError>
     ensures { IfOk result (λ _. text.new ≡ text.old ++ string_text style string.now) }
 {
     match style {
         Style::Plain => text.extend(string.items()),
         Style::Readable => push_quoted(text, string.items()),
-    }
-}
-
-fn push_quoted(text: &mut Text, string: &[u8]) -> Result<(), AllocError>
-    ensures { IfOk result (λ _. text.new ≡ text.old ++ quoted string.now) }
-{
-    text.extend(b"\"")?;
-    for byte in string {
-        push_escaped(text, *byte)?;
-    }
-    text.extend(b"\"")
-}
-
-fn push_escaped(text: &mut Text, byte: u8) -> Result<(), AllocError>
-    ensures { IfOk result (λ _. text.new ≡ text.old ++ escaped byte) }
-{
-    match byte {
-        b'"' => text.extend(b"\\\""),
-        b'\\' => text.extend(b"\\\\"),
-        b'\n' => text.extend(b"\\n"),
-        b'\t' => text.extend(b"\\t"),
-        b'\r' => text.extend(b"\\r"),
-        12 => text.extend(b"\\f"),
-        8 => text.extend(b"\\b"),
-        other => text.extend(&[other]),
     }
 }

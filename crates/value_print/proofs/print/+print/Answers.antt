@@ -3,7 +3,8 @@ use Rattle.std.specs.Prelude.{codes}
 use Rattle.value_core.specs.declared.pair.Pair.{Pair}
 use Rattle.value_core.specs.declared.value.Value.{Value}
 use Rattle.value_core.specs.Texts.{value_text, key_text}
-use Rattle.value_print.proofs.Joins.{between, value_text_map}
+use Rattle.value_core.proofs.Joined.{between}
+use Rattle.value_print.proofs.MapTexts.{value_text_map}
 use Rattle.value_print.proofs.print.+print.Goals as goal
 
 pub push_vector-returns : goal.push_vector-returns

@@ -1,7 +1,7 @@
 use Rattle.std.proofs.Common.{◌≡◌, ◌++◌, drop, map, true}
 use Rattle.std.specs.Prelude.{codes, ◌==◌}
 use Rattle.value_core.specs.Texts.{key_text, value_text}
-use Rattle.value_print.proofs.Joins.{left_at}
+use Rattle.value_core.proofs.Joined.{left_at}
 use Rattle.value_print.proofs.print.+print.Given as goal
 
 abbrev pub invariant-push_vector-loop-index : goal.invariant-push_vector-loop-index

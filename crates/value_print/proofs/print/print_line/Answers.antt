@@ -2,7 +2,7 @@ use Rattle.std.proofs.Common.{ap, ◌∙◌, sym, ◌++◌, map}
 use Rattle.std.specs.Prelude.{codes}
 use Rattle.value_core.specs.declared.style.Style.TheVariants.{Plain}
 use Rattle.value_core.specs.Texts.{value_text}
-use Rattle.value_print.proofs.Joins.{written_all, joined-left_at}
+use Rattle.value_core.proofs.Joined.{written_all, joined-left_at}
 use Rattle.value_print.proofs.print.print_line.Goals as goal
 
 pub returns : goal.returns

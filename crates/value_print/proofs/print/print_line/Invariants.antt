@@ -2,7 +2,7 @@ use Rattle.std.proofs.Common.{◌≡◌, ◌++◌, drop, map, true}
 use Rattle.std.specs.Prelude.{codes, ◌==◌}
 use Rattle.value_core.specs.declared.style.Style.TheVariants.{Plain}
 use Rattle.value_core.specs.Texts.{value_text}
-use Rattle.value_print.proofs.Joins.{left_at}
+use Rattle.value_core.proofs.Joined.{left_at}
 use Rattle.value_print.proofs.print.print_line.Given as goal
 
 abbrev pub invariant-loop-index : goal.invariant-loop-index
