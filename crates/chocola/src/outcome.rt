@@ -1,4 +1,4 @@
-ghost use Rattle.std.specs.Prelude.{◌≡◌, [], None};
+ghost use Rattle.std.specs.Prelude.{◌≡◌};
 ghost use Rattle.chocola.specs.Outcome.{line_kind_number};
 
 use scope_check::ScopeKind;
@@ -100,12 +100,11 @@ fn line_kind_number(kind: LineKind) -> u8
 }
 
 impl Outcome {
+    ghost use Rattle.chocola.specs.Unrun.{IsUnrun};
+
     /// The outcome of words that lead to no run.
     pub fn without_run(alloc: Global, status: u8, detail: Detail) -> Self
-        ensures status { result.status ≡ status }
-        ensures history { result.history.items ≡ [] }
-        ensures end { result.end ≡ None }
-        ensures detail { result.detail ≡ detail }
+        ensures { IsUnrun status detail result }
     {
         Outcome {
             status,
