@@ -1,7 +1,6 @@
 -- From the files of a replay to what is owed to it.
 use Rattle.std.proofs.Common.{◌≡◌, ◌≢◌, ◌<◌, ℕ, zero, suc, List, [], ◌∷◌, sym, ◌∙◌, ap, subst, inl, inr, arith}
 use Rattle.std.specs.Prelude.{◌⊎◌, Option, None, Some, IfSome, Contains, slice_index_or}
-use Rattle.std.specs.Io.KnownBytes.{append_known}
 use Rattle.core_syntax.specs.Table.{Table}
 use Rattle.serial_model.specs.Replay.{replay, IsOver, status}
 use Rattle.serial_model.specs.Trace.{IsTextOfTrace, trace_refusal}
@@ -10,15 +9,13 @@ use Rattle.serial_model.specs.declared.trace.Trace.{Trace}
 use Rattle.serial_model.specs.declared.trace.LineKind.{LineKind}
 use Rattle.trace_text.specs.Same.{IsSameTrace}
 use Rattle.trace_text.proofs.Unique.{one_trace_of, not_refused}
-use Rattle.world_io.specs.Counts.{Rose}
 use Rattle.world_io.specs.Held.{told}
-use Rattle.world_io.specs.Taken.{TookPrefix, Said}
 use Rattle.chocola.specs.declared.outcome.Outcome.{Outcome}
-use Rattle.chocola.specs.Lines.{detail_line, line_of, line_begun, ended_line}
 use Rattle.chocola.specs.Program.{IsProgramOf}
 use Rattle.chocola.specs.Load.{IsLoaded, IsTraced, IsTraceDue}
 use Rattle.chocola.specs.Outcome.{IsEnded, IsStatusOfEnd}
 use Rattle.chocola.specs.ReplayAnswers.{setup_of, IsReplayed, IsReplay, Replays, ReplayOf, ReplayAnswers}
+use Rattle.chocola.specs.ReplayWritten.{ReplayWritten}
 use Rattle.chocola.specs.Seen.{Seen, IsCalm, IsGiven, IsUntouched, NoWriteFailed}
 use Rattle.chocola.specs.SourceAnswers.{AreThere}
 use Rattle.chocola.proofs.Answering.{three_not_ended, four_not_ended, must_tell, no_failure}
@@ -88,15 +85,10 @@ status_of_end outcome end is h = rw is (subst (λ e. IfSome e (λ x. status x �
 pub replay_loaded : (file trace : List ℕ) (before after : Seen) (outcome : Outcome) (program : Table) (t : Trace) → IsLoaded (told before.files.held file) program → IsTraced (told before.files.held trace) t
     → after.files.read_faults ≡ before.files.read_faults
     → ReplayOf program t before.out after.out outcome
-    → (outcome.status ≢ 7 → outcome.status ≢ 6 → (after.out.faults ≡ before.out.faults) × (after.err.faults ≡ before.err.faults))
-    → (outcome.status ≡ 7 → Rose before.out.faults after.out.faults ⊎ Rose before.err.faults after.err.faults)
+    → ReplayWritten before.out after.out before.err after.err outcome
     → IsUntouched before after
-    → Said before.err after.err (line_of [] outcome.status outcome.detail outcome.end)
-    → TookPrefix before.err.taken after.err.taken (line_begun [] outcome.status outcome.detail outcome.end)
-    → (IsEnded outcome.status → outcome.status ≢ 7 → after.err.taken ≡ append_known before.err.taken (ended_line outcome.end))
-    → (outcome.status ≡ 8 → after.err.taken ≡ append_known before.err.taken (detail_line outcome.detail))
     → ReplayAnswers file trace before after outcome
-replay_loaded file trace before after outcome program t loaded traced reads r unfailed fault files said at_most end_said differs_said = record {
+replay_loaded file trace before after outcome program t loaded traced reads r written files = record {
   statuses = elim r.statuses [ inl e ↦ inl e | inr m ↦ inr (inr m) ];
   replayed = λ e. is_replay;
   unless_memory = λ m. inr is_replay;
@@ -134,16 +126,16 @@ replay_loaded file trace before after outcome program t loaded traced reads r un
   };
   must_refuse_trace = λ bytes text other kind line given_file source given_trace refusal calm. absurd (found_trace_refused (told before.files.held trace) text t kind line given_trace traced refusal);
   refused = λ four. absurd (not_four outcome.status r.statuses four);
-  not_written = fault;
+  not_written = written.not_written;
   files = files;
   idle = λ w. absurd (elim w [ inl three ↦ not_three outcome.status r.statuses three | inr four ↦ not_four outcome.status r.statuses four ]);
   no_detail = λ s. elim s [ inl three ↦ absurd (not_three outcome.status r.statuses three) | inr six ↦ r.no_detail six ];
-  says = record { unread = []; not_read = λ three. absurd (not_three outcome.status r.statuses three); said = said; said_at_most = at_most; end_said = end_said };
-  differs_said = differs_said;
+  says = record { unread = []; not_read = λ three. absurd (not_three outcome.status r.statuses three); said = written.says.said; said_at_most = written.says.said_at_most; end_said = written.says.end_said };
+  differs_said = written.differs_said;
 }
   where
     none : outcome.status ≢ 7 → outcome.status ≢ 6 → NoWriteFailed before after
-    none seven six = let same = unfailed seven six in record { out = same.0; err = same.1; files = files.faults }
+    none seven six = let same = written.unfailed seven six in record { out = same.0; err = same.1; files = files.faults }
 
     is_replay : IsReplay file trace before after outcome
     is_replay = record {
@@ -159,7 +151,7 @@ replay_loaded file trace before after outcome program t loaded traced reads r un
     }
 
     silent : IsCalm before after → outcome.status ≡ 7 → ⊥
-    silent calm seven = elim (fault seven) [ inl o ↦ calm.out o | inr e ↦ calm.err e ]
+    silent calm seven = elim (written.not_written seven) [ inl o ↦ calm.out o | inr e ↦ calm.err e ]
 
     here : (bytes text : List ℕ) (other : Table) (stated : Trace) → IsGiven file bytes before → IsProgramOf bytes other → IsGiven trace text before → IsTextOfTrace stated text → Replays other stated → Replays program t
     here bytes text other stated given_file source given_trace is_text replays =

@@ -1,26 +1,27 @@
 -- From what was read and run to what is owed to a command.
 use Rattle.std.proofs.Common.{◌≡◌, ◌≢◌, ◌<◌, ℕ, zero, suc, List, [], ◌∷◌, refl, sym, ◌∙◌, subst, inl, inr, arith}
 use Rattle.std.specs.Prelude.{◌⊎◌, Option, None, Some, Err, IsSome, IfSome, IsSomeAnd, Contains, slice_index_or}
-use Rattle.std.specs.Io.KnownBytes.{append_known}
 use Rattle.core_syntax.specs.Table.{Table}
 use Rattle.serial_model.specs.Limits.{Budget}
 use Rattle.serial_model.specs.Replay.{status}
 use Rattle.serial_model.specs.declared.end.End.{End}
 use Rattle.world_io.specs.Counts.{Rose}
 use Rattle.world_io.specs.Held.{told}
-use Rattle.world_io.specs.Taken.{TookPrefix, Said}
 use Rattle.world_io.specs.Seen.{FilesSeen}
 use Rattle.chocola.specs.declared.outcome.Outcome.{Outcome}
 use Rattle.chocola.specs.declared.outcome.Detail.TheVariants.{Nothing}
 use Rattle.chocola.specs.declared.load.LoadNo.{LoadNo}
 use Rattle.chocola.specs.declared.load.LoadNo.TheVariants.{NotRead, Refused, OutOfScope, Memory}
-use Rattle.chocola.specs.Lines.{load_line, line_of, line_begun, ended_line}
+use Rattle.chocola.specs.LineWritten.{SaysLine}
+use Rattle.chocola.specs.Lines.{load_line}
 use Rattle.chocola.specs.Load.{IsLoaded, Loads}
 use Rattle.chocola.specs.Outcome.{IsEnded, IsWithoutRun, IsStatusOfEnd, IsIdle, Finished, load_status, load_detail}
-use Rattle.chocola.specs.Seen.{Seen, IsUnread, NoWriteFailed, WriteFailed}
+use Rattle.chocola.specs.SaysOutcome.{SaysOutcome}
+use Rattle.chocola.specs.Seen.{Seen, IsUnread, IsUntouched, NoWriteFailed, WriteFailed}
 use Rattle.chocola.specs.SourceAnswers.{IsRefusedSource, ReadsSource, Says}
 use Rattle.chocola.specs.Traced.{KeepsTrace}
 use Rattle.chocola.specs.RunAnswers.{IsRun, RunAnswers}
+use Rattle.chocola.specs.Unrun.{IsUnrun}
 use Rattle.chocola.proofs.Loading.{missing_loaded, missing_error, failed_error, found_refused, found_out_of_scope, error_refused, error_out_of_scope, error_checks}
 use Rattle.chocola.proofs.Said.{line_of-load, line_begun-load}
 use Rattle.chocola.proofs.Tracing.{KeepsTrace-none}
@@ -129,7 +130,13 @@ is_done outcome h some ends = elim h [ inl e ↦ inl (both outcome.end (some e) 
 
 -- where a file gives no program
 module _ (file : List ℕ) (before after : Seen) (outcome : Outcome) (error : LoadNo) (loads : Loads file before.files after.files (Err error))
-    (is_status : outcome.status ≡ load_status error) (is_detail : outcome.detail ≡ load_detail error) where
+    (unrun : IsUnrun (load_status error) (load_detail error) outcome) where
+  is_status : outcome.status ≡ load_status error
+  is_status = unrun.status
+
+  is_detail : outcome.detail ≡ load_detail error
+  is_detail = unrun.detail
+
   pub reads_error : ReadsSource file (file ∷ []) before after outcome
   reads_error = record {
     missing = λ name among none. rw is_status
@@ -145,33 +152,34 @@ module _ (file : List ℕ) (before after : Seen) (outcome : Outcome) (error : Lo
   pub refused_error : outcome.status ≡ 4 → IsRefusedSource (told before.files.held file) outcome.detail
   refused_error four = rw is_detail (refuses file before.files after.files error loads (sym is_status ∙ four))
 
-  pub says_error : (names : List (List ℕ)) → Said before.err after.err (load_line file error) → TookPrefix before.err.taken after.err.taken (load_line file error)
-      → Says (file ∷ names) before after outcome
-  says_error names said at_most = record {
+  pub idle_error : after.out.taken ≡ before.out.taken → IsUntouched before after → IsIdle before after outcome
+  idle_error printed files = record { history = unrun.history; end = unrun.end; printed = printed; files = files }
+
+  pub says_error : (names : List (List ℕ)) → SaysLine (load_line file error) before.err after.err → Says (file ∷ names) before after outcome
+  says_error names line = record {
     unread = file;
     not_read = λ three. unread_error file names before after error loads (sym is_status ∙ three);
-    said = rw (is_status, is_detail, line_of-load file error outcome.end) said;
-    said_at_most = rw (is_status, is_detail, line_begun-load file error outcome.end) at_most;
+    said = rw (is_status, is_detail, line_of-load file error outcome.end) line.said;
+    said_at_most = rw (is_status, is_detail, line_begun-load file error outcome.end) line.said_at_most;
     end_said = λ ended written. absurd (error_not_ended error (subst IsEnded is_status ended));
   }
 
-  pub run_error : (limits : Budget) (trace : Option (List ℕ)) → IsIdle before after outcome
-      → Said before.err after.err (load_line file error) → TookPrefix before.err.taken after.err.taken (load_line file error)
-      → RunAnswers file limits trace before after outcome
-  run_error limits trace idle said at_most = record {
+  pub run_error : (limits : Budget) (trace : Option (List ℕ)) → after.out.taken ≡ before.out.taken → IsUntouched before after
+      → SaysLine (load_line file error) before.err after.err → RunAnswers file limits trace before after outcome
+  run_error limits trace printed files line = record {
     statuses = rw is_status (inr (error_status error));
     run = λ ended. absurd (error_not_ended error (subst IsEnded is_status ended));
     ended = λ ended. absurd (error_not_ended error (subst IsEnded is_status ended));
-    unless_memory = λ six. inl idle;
+    unless_memory = λ six. inl (idle_error printed files);
     complete = λ bytes program given source calm. inr (is_status
         ∙ error_checks file before.files after.files bytes given error program loads source calm.reads);
-    keeps = KeepsTrace-none limits trace before after outcome idle.end idle.files;
+    keeps = KeepsTrace-none limits trace before after outcome unrun.end files;
     reads = reads_error;
     refused = refused_error;
     not_written = λ seven. absurd (error_not_ended error (inr (inr (inr (sym is_status ∙ seven)))));
-    idle = λ w. idle;
+    idle = λ w. idle_error printed files;
     detail = λ apart. is_detail ∙ error_detail error (λ e. apart (is_status ∙ e));
-    says = says_error [] said at_most;
+    says = says_error [] line;
   }
 
 -- where it gives one
@@ -192,11 +200,9 @@ module _ (file : List ℕ) (before after : Seen) (outcome : Outcome) (program : 
       → KeepsTrace limits trace before after outcome
       → (outcome.status ≡ 7 → Rose before.out.faults after.out.faults ⊎ (Rose before.err.faults after.err.faults ⊎ Rose before.files.write_faults after.files.write_faults))
       → outcome.detail ≡ Nothing
-      → Said before.err after.err (line_of [] outcome.status outcome.detail outcome.end)
-      → TookPrefix before.err.taken after.err.taken (line_begun [] outcome.status outcome.detail outcome.end)
-      → (IsEnded outcome.status → outcome.status ≢ 7 → after.err.taken ≡ append_known before.err.taken (ended_line outcome.end))
+      → SaysOutcome outcome.status outcome.detail outcome.end before.err after.err
       → RunAnswers file limits trace before after outcome
-  run_loaded limits trace finished ended keeps rises detail said at_most end_said =
+  run_loaded limits trace finished ended keeps rises detail line =
       let run : IsRun file limits before after outcome = record {
         bytes = loaded.bytes;
         read = loaded.read;
@@ -215,5 +221,5 @@ module _ (file : List ℕ) (before after : Seen) (outcome : Outcome) (program : 
         not_written = rises;
         idle = λ w. absurd (no_run outcome.status statuses w);
         detail = λ apart. detail;
-        says = record { unread = []; not_read = λ three. absurd (not_three outcome.status statuses three); said = said; said_at_most = at_most; end_said = end_said };
+        says = record { unread = []; not_read = λ three. absurd (not_three outcome.status statuses three); said = line.said; said_at_most = line.said_at_most; end_said = line.end_said };
       }

@@ -5,7 +5,7 @@ use Rattle.std.specs.Io.KnownBytes.{append_known}
 use Rattle.core_syntax.specs.Table.{Table}
 use Rattle.world_io.specs.Counts.{Rose}
 use Rattle.world_io.specs.Held.{told}
-use Rattle.world_io.specs.Taken.{TookPrefix, Said}
+use Rattle.world_io.specs.Taken.{TookPrefix}
 use Rattle.world_io.proofs.TakenLemmas.{TookPrefix-none, append_known-nil}
 use Rattle.serial_model.specs.declared.end.End.{End}
 use Rattle.chocola.specs.declared.outcome.Outcome.{Outcome}
@@ -13,30 +13,32 @@ use Rattle.chocola.specs.declared.outcome.Detail.TheVariants.{Nothing}
 use Rattle.chocola.specs.declared.load.LoadNo.{LoadNo}
 use Rattle.chocola.specs.Check.{check_line}
 use Rattle.chocola.specs.CheckAnswers.{CheckAnswers}
+use Rattle.chocola.specs.LineWritten.{SaysLine}
 use Rattle.chocola.specs.Lines.{load_line, line_of, line_begun}
 use Rattle.chocola.specs.Load.{IsLoaded, Loads}
-use Rattle.chocola.specs.Outcome.{IsEnded, IsIdle, load_status, load_detail}
+use Rattle.chocola.specs.Outcome.{IsEnded, load_status, load_detail}
 use Rattle.chocola.specs.Seen.{Seen, IsUntouched}
+use Rattle.chocola.specs.Unrun.{IsUnrun}
 use Rattle.chocola.specs.Written.{IsWritten}
 use Rattle.chocola.proofs.Loading.{error_checks}
-use Rattle.chocola.proofs.Answering.{reads_error, reads_loaded, refused_error, says_error, error_not_ended, error_status, error_detail, not_three, not_four}
+use Rattle.chocola.proofs.Answering.{idle_error, reads_error, reads_loaded, refused_error, says_error, error_not_ended, error_status, error_detail, not_three, not_four}
 
 pub check_error : (file : List ℕ) (before after : Seen) (outcome : Outcome) (error : LoadNo) → Loads file before.files after.files (Err error)
-    → outcome.status ≡ load_status error → outcome.detail ≡ load_detail error → IsIdle before after outcome
-    → Said before.err after.err (load_line file error) → TookPrefix before.err.taken after.err.taken (load_line file error) → CheckAnswers file before after outcome
-check_error file before after outcome error loads is_status is_detail idle said at_most = record {
-  statuses = rw is_status (inr (error_status error));
-  checked = λ ended. absurd (error_not_ended error (subst IsEnded is_status ended));
-  complete = λ bytes program given source calm. inr (is_status ∙ error_checks file before.files after.files bytes given error program loads source calm.reads);
-  reads = reads_error file before after outcome error loads is_status is_detail;
-  refused = refused_error file before after outcome error loads is_status is_detail;
-  not_written = λ seven. absurd (error_not_ended error (inr (inr (inr (sym is_status ∙ seven)))));
-  no_entries = idle.history;
-  no_end = idle.end;
-  files = idle.files;
-  idle = λ e. idle;
-  detail = λ apart. is_detail ∙ error_detail error (λ e. apart (is_status ∙ e));
-  says = says_error file before after outcome error loads is_status is_detail [] said at_most;
+    → IsUnrun (load_status error) (load_detail error) outcome → after.out.taken ≡ before.out.taken → IsUntouched before after
+    → SaysLine (load_line file error) before.err after.err → CheckAnswers file before after outcome
+check_error file before after outcome error loads unrun printed files line = record {
+  statuses = rw unrun.status (inr (error_status error));
+  checked = λ ended. absurd (error_not_ended error (subst IsEnded unrun.status ended));
+  complete = λ bytes program given source calm. inr (unrun.status ∙ error_checks file before.files after.files bytes given error program loads source calm.reads);
+  reads = reads_error file before after outcome error loads unrun;
+  refused = refused_error file before after outcome error loads unrun;
+  not_written = λ seven. absurd (error_not_ended error (inr (inr (inr (sym unrun.status ∙ seven)))));
+  no_entries = unrun.history;
+  no_end = unrun.end;
+  files = files;
+  idle = λ e. idle_error file before after outcome error loads unrun printed files;
+  detail = λ apart. unrun.detail ∙ error_detail error (λ e. apart (unrun.status ∙ e));
+  says = says_error file before after outcome error loads unrun [] line;
 }
 
 -- the status of a check that came to its end
@@ -54,9 +56,9 @@ pub check_loaded : (file : List ℕ) (before after : Seen) (outcome : Outcome) (
     → (outcome.status ≡ 0) ⊎ (outcome.status ≡ 7) → TookPrefix before.out.taken after.out.taken (check_line program)
     → (IsWritten outcome.status before.out after.out → after.out.taken ≡ append_known before.out.taken (check_line program))
     → (outcome.status ≡ 7 → Rose before.out.faults after.out.faults) → (outcome.status ≢ 7 → after.out.faults ≡ before.out.faults)
-    → outcome.history.items ≡ [] → outcome.end ≡ None → outcome.detail ≡ Nothing → IsUntouched before after → after.err ≡ before.err
+    → IsUnrun outcome.status Nothing outcome → IsUntouched before after → after.err ≡ before.err
     → after.files.read_faults ≡ before.files.read_faults → CheckAnswers file before after outcome
-check_loaded file before after outcome program loaded status prefix whole fault unfailed history none detail files same reads =
+check_loaded file before after outcome program loaded status prefix whole fault unfailed unrun files same reads =
     let silent : after.err.taken ≡ before.err.taken = ap (λ sink. sink.taken) same in
     record {
       statuses = inl (ended outcome.status status);
@@ -66,16 +68,16 @@ check_loaded file before after outcome program loaded status prefix whole fault 
           (λ seven six. record { out = unfailed seven; err = ap (λ sink. sink.faults) same; files = files.faults });
       refused = λ four. absurd (not_four outcome.status (inl (ended outcome.status status)) four);
       not_written = fault;
-      no_entries = history;
-      no_end = none;
+      no_entries = unrun.history;
+      no_end = unrun.end;
       files = files;
       idle = λ e. absurd (e (ended outcome.status status));
-      detail = λ apart. detail;
+      detail = λ apart. unrun.detail;
       says = record {
         unread = [];
         not_read = λ three. absurd (not_three outcome.status (inl (ended outcome.status status)) three);
-        said = rw (detail, no_line outcome.status outcome.end status none) (λ calm. silent ∙ sym (append_known-nil before.err.taken));
-        said_at_most = rw (detail, no_line_begun outcome.status outcome.end status none) (TookPrefix-none before.err.taken after.err.taken [] silent);
-        end_said = λ e written. rw none (silent ∙ sym (append_known-nil before.err.taken));
+        said = rw (unrun.detail, no_line outcome.status outcome.end status unrun.end) (λ calm. silent ∙ sym (append_known-nil before.err.taken));
+        said_at_most = rw (unrun.detail, no_line_begun outcome.status outcome.end status unrun.end) (TookPrefix-none before.err.taken after.err.taken [] silent);
+        end_said = λ e written. rw unrun.end (silent ∙ sym (append_known-nil before.err.taken));
       };
     }

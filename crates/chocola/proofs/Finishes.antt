@@ -2,6 +2,7 @@
 use Rattle.std.proofs.Common.{◌≡◌, ◌≢◌, ℕ, zero, suc, inl, inr, ◌∷◌, List, [], take, refl, sym, ◌∙◌, ap, subst, arith}
 use Rattle.std.specs.Prelude.{Bool, true, false, ◌==◌, if◌then◌else◌, Option, None, Some, IsSome, IfSome, unwrap_or, Result, Ok, Err, IsOk, IsErr, OnOk}
 use Rattle.std.specs.Io.KnownBytes.{append_known}
+use Rattle.world_io.specs.Counts.{Rose}
 use Rattle.world_io.specs.Seen.{SinkSeen}
 use Rattle.world_io.specs.Taken.{CountsWrite, TookPrefix}
 use Rattle.world_io.specs.declared.sink.Failed.{Failed}
@@ -11,7 +12,7 @@ use Rattle.serial_model.specs.State.{Setup, State, opening}
 use Rattle.serial_model.specs.Replay.{replay, replay_from, IsOver, status}
 use Rattle.serial_machine.specs.Progress.{Progress, state_of}
 use Rattle.chocola.specs.declared.outcome.Outcome.{Outcome}
-use Rattle.chocola.specs.Outcome.{Finished, end_unless_memory}
+use Rattle.chocola.specs.Outcome.{IsEnded, Finished, end_unless_memory}
 use Rattle.chocola.specs.Written.{IsWritten}
 use Rattle.chocola.proofs.UnitsMade.{all_units_made}
 
@@ -121,6 +122,10 @@ status_unless s t end found e same ends not_seven = rw (e, same) (on (s == 6) re
     on true is = tt
     on false is = ends (λ seven. not_seven (same ∙ seven)) (λ six. absurd (let x : false ≡ true = is ∙ ap (λ n. n == 6) six in cc))
 
+-- and an outcome at its end has one
+pub some_unless : (s : ℕ) (end : End) (found : Option End) → found ≡ end_unless_memory s end → IsEnded s → IsSome found
+some_unless s end found e h = rw e (elim h [ inl a ↦ rw a refl | inr h ↦ elim h [ inl b ↦ rw b refl | inr h ↦ elim h [ inl c ↦ rw c refl | inr d ↦ rw d refl ] ] ])
+
 -- the bytes of a run that are written in full were taken whole
 pub wrote_whole : (written : Result Unit Failed) (s : ℕ) (old new : SinkSeen) (P : Type 0) → CountsWrite written old.faults new.faults → (IsErr written → s ≡ 7) → OnOk written P
     → IsWritten s old new → P
@@ -139,3 +144,8 @@ wrote_whole (Err failed) s old new P counts fails whole w =
 pub none_counted : (written : Result Unit Failed) (before now : ℕ) → CountsWrite written before now → IsOk written → now ≡ before
 none_counted (Ok x) before now counts is = counts
 none_counted (Err failed) before now counts is = absurd (cc)
+
+-- bytes that were not written were counted
+pub rose : (written : Result Unit Failed) (before now : ℕ) → CountsWrite written before now → IsErr written → Rose before now
+rose (Ok x) before now counts is = absurd (cc)
+rose (Err failed) before now counts is = counts

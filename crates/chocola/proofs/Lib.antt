@@ -6,6 +6,7 @@ pub mod Loading
 pub mod Pieces
 pub mod Replaying
 pub mod Said
+pub mod Stopped
 pub mod Stuck
 pub mod Tracing
 pub mod UnitsMade

@@ -1,6 +1,7 @@
 -- From a replay to its outcome.
-use Rattle.std.proofs.Common.{◌≡◌, ℕ, ◌+◌, List, length, take, sym, ◌∙◌, ap, subst, inl, inr, arith}
-use Rattle.std.specs.Prelude.{◌⊎◌, Option, None, Some, IsSome, slice_get}
+use Rattle.std.proofs.Common.{◌≡◌, ◌≤◌, ℕ, ◌+◌, List, length, take, sym, ◌∙◌, ap, subst, inl, inr, arith}
+use Rattle.std.specs.Prelude.{◌⊎◌, Option, None, Some, IsSome, slice_get, Result}
+use Rattle.std.specs.Io.KnownBytes.{append_known}
 use Rattle.std.proofs.lemmas.Grind.{common_steps}
 use Rattle.core_syntax.specs.Table.{Table}
 use Rattle.serial_model.specs.Replay.{replay, IsOver}
@@ -9,23 +10,45 @@ use Rattle.serial_model.specs.declared.entry.Entry.{Entry}
 use Rattle.serial_model.specs.declared.trace.Trace.{Trace}
 use Rattle.serial_machine.specs.Progress.{Progress, state_of}
 use Rattle.world_io.specs.Seen.{SinkSeen}
+use Rattle.world_io.specs.Taken.{CountsWrite}
+use Rattle.world_io.specs.declared.sink.Failed.{Failed}
 use Rattle.chocola.specs.declared.outcome.Outcome.{Outcome}
 use Rattle.chocola.specs.declared.outcome.Detail.TheVariants as detail
 use Rattle.chocola.specs.declared.replay.Replayed.TheVariants.{Agrees, Differs}
 use Rattle.chocola.specs.Outcome.{IsEnded, Finished}
 use Rattle.chocola.specs.Replayed.{IsRefusedNext, IsFound, ReplaysTo}
 use Rattle.chocola.specs.ReplayAnswers.{setup_of, Replays, Agreeing, Differing, ReplayOf}
-use Rattle.chocola.proofs.Finishes.{the_state, at_state}
+use Rattle.chocola.specs.Lines.{detail_line}
+use Rattle.chocola.specs.ReplayWritten.{ReplayWritten}
+use Rattle.chocola.specs.SaysOutcome.{SaysOutcome}
+use Rattle.chocola.specs.WrittenAfter.{WritesAfter}
+use Rattle.chocola.proofs.Finishes.{the_state, at_state, none_counted, rose}
 use Rattle.chocola.proofs.Answering.{apart_from}
 
 take_whole : (entries : List Entry) → take (length entries) entries ≡ entries
 take_whole entries = grind (arith, common_steps)
 
-not_eight : (s : ℕ) → IsEnded s ⊎ (s ≡ 6) → s ≡ 8 → ⊥
+pub not_eight : (s : ℕ) → IsEnded s ⊎ (s ≡ 6) → s ≡ 8 → ⊥
 not_eight s h e = apart_from s 8 h e (λ x. omega (arith, x)) (λ x. omega (arith, x)) (λ x. omega (arith, x)) (λ x. omega (arith, x)) (λ x. omega (arith, x))
 
 ended_of : (s : ℕ) → (s ≡ 0) ⊎ ((s ≡ 1) ⊎ (s ≡ 5)) → IsEnded s
 ended_of s h = elim h [ inl a ↦ inl a | inr h ↦ elim h [ inl b ↦ inr (inl b) | inr c ↦ inr (inr (inl c)) ] ]
+
+-- what was written of a replay, where its bytes were written, or failed to be, and then its line
+pub ReplayWritten-of : (written : Result Unit Failed) (out out_after err err_after : SinkSeen) (outcome : Outcome)
+    → CountsWrite written out.faults out_after.faults → out.faults ≤ out_after.faults
+    → WritesAfter written err err_after outcome.status
+    → SaysOutcome outcome.status outcome.detail outcome.end err err_after
+    → (outcome.status ≡ 8 → err_after.taken ≡ append_known err.taken (detail_line outcome.detail))
+    → ReplayWritten out out_after err err_after outcome
+ReplayWritten-of written out out_after err err_after outcome counts out_later after says differs_said = record {
+  not_written = λ seven. elim (after.fault seven) [ inl e ↦ inl (rose written out.faults out_after.faults counts e) | inr e ↦ inr e ];
+  unfailed = λ seven six. (none_counted written out.faults out_after.faults counts (after.unfailed seven).0, (after.unfailed seven).1);
+  says = says;
+  differs_said = differs_said;
+  out_later = out_later;
+  err_later = after.later;
+}
 
 module _ (program : Table) (t : Trace) (p : Progress) (outcome : Outcome) (old new : SinkSeen) (same : p.setup ≡ setup_of program t)
     (finished : Finished p.setup old new outcome) (entries : outcome.history.items ≡ p.history) where

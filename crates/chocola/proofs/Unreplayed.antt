@@ -13,7 +13,6 @@ use Rattle.serial_model.specs.declared.trace.LineKind.{LineKind}
 use Rattle.trace_text.proofs.Unique.{not_refused, one_refusal}
 use Rattle.world_io.specs.Held.{told}
 use Rattle.world_io.specs.Seen.{FilesSeen}
-use Rattle.world_io.specs.Taken.{TookPrefix, Said}
 use Rattle.chocola.specs.declared.outcome.Outcome.{Outcome}
 use Rattle.chocola.specs.declared.outcome.Detail.TheVariants.{Nothing}
 use Rattle.chocola.specs.declared.load.LoadNo.TheVariants.{NotRead, Refused, OutOfScope, Memory}
@@ -22,12 +21,14 @@ use Rattle.chocola.specs.declared.load_replay.GivenNo.{GivenNo}
 use Rattle.chocola.specs.declared.load_replay.GivenNo.TheVariants as given
 use Rattle.chocola.specs.Fetch.{IsNotRead}
 use Rattle.chocola.specs.Lines.{given_line, line_of, line_begun}
+use Rattle.chocola.specs.LineWritten.{SaysLine}
 use Rattle.chocola.specs.Program.{IsProgramOf}
 use Rattle.chocola.specs.Load.{IsOutOfScope, IsTraceDue, Loads, LoadsBoth}
 use Rattle.chocola.specs.Outcome.{IsEnded, IsWithoutRun, IsIdle, given_status, given_detail, load_status, refused_as, out_of_scope, refused_trace}
 use Rattle.chocola.specs.ReplayAnswers.{IsReplayed, ReplayAnswers}
-use Rattle.chocola.specs.Seen.{Seen, IsGiven, IsUnread, ReadFailed, ReadsWell}
+use Rattle.chocola.specs.Seen.{Seen, IsGiven, IsUnread, IsUntouched, ReadFailed, ReadsWell}
 use Rattle.chocola.specs.SourceAnswers.{IsRefusedSource, AreThere}
+use Rattle.chocola.specs.Unrun.{IsUnrun}
 use Rattle.chocola.proofs.Answering.{three_not_ended, four_not_ended, refuses, error_detail, error_not_ended, error_status, unread_error}
 use Rattle.chocola.proofs.Answered.{one_of_two, second, due_trace}
 use Rattle.chocola.proofs.Loading.{missing_loaded, missing_error, failed_error, found_refused, found_out_of_scope, error_refused, error_out_of_scope, error_checks}
@@ -162,38 +163,39 @@ module _ (file trace : List ℕ) (before after : Seen) where
       inl (refl, ap (λ x. refused_trace x l) same.0 ∙ ap (λ x. refused_trace kind x) same.1)
 
   pub replay_error : (outcome : Outcome) (error : GivenNo) → LoadsBoth file trace before.files after.files (Err error)
-      → outcome.status ≡ given_status error → outcome.detail ≡ given_detail error → IsIdle before after outcome
-      → Said before.err after.err (given_line file trace error) → TookPrefix before.err.taken after.err.taken (given_line file trace error)
-      → ReplayAnswers file trace before after outcome
-  replay_error outcome error h is_status is_detail idle said at_most = record {
-    statuses = rw is_status (inr (given_is_without error));
-    replayed = λ e. absurd (given_not_replayed error (subst IsReplayed is_status e));
-    unless_memory = λ m. inl idle;
-    complete = λ bytes text program stated is source is_trace is_text calm replays. inr (is_status ∙ given_completes error h bytes text program stated is source is_trace is_text calm.reads);
-    must_differ = λ bytes text program stated is source is_trace is_text calm never. inr (is_status ∙ given_completes error h bytes text program stated is source is_trace is_text calm.reads);
-    reads = record {
-      missing = λ name among none. rw is_status (elim (one_of_two file trace name among) [
-        | inl e ↦ missing_file error h (subst (λ n. told before.files.held n ≡ Some None) e none)
-        | inr e ↦ missing_trace error h (subst (λ n. told before.files.held n ≡ Some None) e none)
-      ]);
-      must_refuse = λ bytes kind at is there refused calm. rw (is_status, is_detail) (given_must_refuse error h bytes kind at is there refused calm);
-      must_refuse_scope = λ bytes kind at is there refused calm. rw (is_status, is_detail) (given_must_refuse_scope error h bytes kind at is there refused calm);
-      failed_read = λ failed. rw is_status (given_failed error h failed);
-      failed_write = λ failed. rw is_status (elim (given_is_without error) [ inl w ↦ inl w | inr six ↦ inr (inl six) ]);
-    };
-    must_refuse_trace = λ bytes text program kind line is source is_trace refusal calm. rw (is_status, is_detail)
-        (given_must_refuse_trace error h bytes text program kind line is source is_trace refusal calm);
-    refused = λ four. rw is_detail (given_refused error h (sym is_status ∙ four));
-    not_written = λ seven. absurd (given_not_replayed error (inl (inr (inr (inr (sym is_status ∙ seven))))));
-    files = idle.files;
-    idle = λ w. idle;
-    no_detail = λ s. is_detail ∙ given_no_detail error (λ four. elim s [ inl three ↦ omega (arith, is_status, four, three) | inr six ↦ omega (arith, is_status, four, six) ]);
-    says = record {
-      unread = unread_of error;
-      not_read = λ three. given_unread error h (sym is_status ∙ three);
-      said = rw (is_status, is_detail, given_line_of error outcome.end) said;
-      said_at_most = rw (is_status, is_detail, given_line_begun error outcome.end) at_most;
-      end_said = λ ended written. absurd (given_not_replayed error (inl (subst IsEnded is_status ended)));
-    };
-    differs_said = λ eight. absurd (given_not_replayed error (inr (sym is_status ∙ eight)));
-  }
+      → IsUnrun (given_status error) (given_detail error) outcome → after.out.taken ≡ before.out.taken → IsUntouched before after
+      → SaysLine (given_line file trace error) before.err after.err → ReplayAnswers file trace before after outcome
+  replay_error outcome error h unrun printed files line =
+      let idle : IsIdle before after outcome = record { history = unrun.history; end = unrun.end; printed = printed; files = files } in
+      record {
+        statuses = rw unrun.status (inr (given_is_without error));
+        replayed = λ e. absurd (given_not_replayed error (subst IsReplayed unrun.status e));
+        unless_memory = λ m. inl idle;
+        complete = λ bytes text program stated is source is_trace is_text calm replays. inr (unrun.status ∙ given_completes error h bytes text program stated is source is_trace is_text calm.reads);
+        must_differ = λ bytes text program stated is source is_trace is_text calm never. inr (unrun.status ∙ given_completes error h bytes text program stated is source is_trace is_text calm.reads);
+        reads = record {
+          missing = λ name among none. rw unrun.status (elim (one_of_two file trace name among) [
+            | inl e ↦ missing_file error h (subst (λ n. told before.files.held n ≡ Some None) e none)
+            | inr e ↦ missing_trace error h (subst (λ n. told before.files.held n ≡ Some None) e none)
+          ]);
+          must_refuse = λ bytes kind at is there refused calm. rw (unrun.status, unrun.detail) (given_must_refuse error h bytes kind at is there refused calm);
+          must_refuse_scope = λ bytes kind at is there refused calm. rw (unrun.status, unrun.detail) (given_must_refuse_scope error h bytes kind at is there refused calm);
+          failed_read = λ failed. rw unrun.status (given_failed error h failed);
+          failed_write = λ failed. rw unrun.status (elim (given_is_without error) [ inl w ↦ inl w | inr six ↦ inr (inl six) ]);
+        };
+        must_refuse_trace = λ bytes text program kind line is source is_trace refusal calm. rw (unrun.status, unrun.detail)
+            (given_must_refuse_trace error h bytes text program kind line is source is_trace refusal calm);
+        refused = λ four. rw unrun.detail (given_refused error h (sym unrun.status ∙ four));
+        not_written = λ seven. absurd (given_not_replayed error (inl (inr (inr (inr (sym unrun.status ∙ seven))))));
+        files = files;
+        idle = λ w. idle;
+        no_detail = λ s. unrun.detail ∙ given_no_detail error (λ four. elim s [ inl three ↦ omega (arith, unrun.status, four, three) | inr six ↦ omega (arith, unrun.status, four, six) ]);
+        says = record {
+          unread = unread_of error;
+          not_read = λ three. given_unread error h (sym unrun.status ∙ three);
+          said = rw (unrun.status, unrun.detail, given_line_of error outcome.end) line.said;
+          said_at_most = rw (unrun.status, unrun.detail, given_line_begun error outcome.end) line.said_at_most;
+          end_said = λ ended written. absurd (given_not_replayed error (inl (subst IsEnded unrun.status ended)));
+        };
+        differs_said = λ eight. absurd (given_not_replayed error (inr (sym unrun.status ∙ eight)));
+      }

@@ -1,25 +1,27 @@
 -- What is owed to the words where there was no memory to read them.
-use Rattle.std.proofs.Common.{◌≡◌, ◌≢◌, ◌≤◌, ℕ, List, [], ◌∷◌, refl, subst, inl, inr, arith, le_refl}
-use Rattle.std.specs.Prelude.{Option, None, Some, ◌⊎◌}
+use Rattle.std.proofs.Common.{◌≡◌, ℕ, List, [], ◌∷◌, refl, subst, inl, inr, arith, le_refl}
+use Rattle.std.specs.Prelude.{Option}
 use Rattle.serial_model.specs.Limits.{Budget}
 use Rattle.world_io.specs.Seen.{FilesSeen, SinkSeen}
-use Rattle.world_io.specs.Taken.{TookPrefix, Said}
 use Rattle.chocola.specs.declared.outcome.Outcome.{Outcome}
 use Rattle.chocola.specs.declared.outcome.Detail.TheVariants.{Nothing}
 use Rattle.chocola.specs.Answers.{Answers}
 use Rattle.chocola.specs.CheckAnswers.{CheckAnswers}
+use Rattle.chocola.specs.LineWritten.{SaysLine}
 use Rattle.chocola.specs.Lines.{memory_line}
-use Rattle.chocola.specs.NoAnswers.{NoCommand}
 use Rattle.chocola.specs.Outcome.{IsEnded, IsWithoutRun, IsIdle}
 use Rattle.chocola.specs.ReplayAnswers.{IsReplayed, ReplayAnswers}
 use Rattle.chocola.specs.RunAnswers.{RunAnswers}
 use Rattle.chocola.specs.Seen.{Seen, seen, IsUntouched}
 use Rattle.chocola.specs.SourceAnswers.{ReadsSource, Says}
+use Rattle.chocola.specs.Unrun.{IsUnrun}
 use Rattle.chocola.proofs.Answering.{six_not_ended}
 use Rattle.chocola.proofs.Tracing.{KeepsTrace-none}
 
-module _ (words : List (List ℕ)) (files : FilesSeen) (out err err2 : SinkSeen) (outcome : Outcome) (six : outcome.status ≡ 6) (nothing : outcome.detail ≡ Nothing)
-    (empty : outcome.history.items ≡ []) (none : outcome.end ≡ None) (said : Said err err2 memory_line) (at_most : TookPrefix err.taken err2.taken memory_line) (later : err.faults ≤ err2.faults) where
+module _ (words : List (List ℕ)) (files : FilesSeen) (out err err2 : SinkSeen) (outcome : Outcome) (unrun : IsUnrun 6 Nothing outcome) (line : SaysLine memory_line err err2) where
+  six : outcome.status ≡ 6
+  six = unrun.status
+
   abbrev before : Seen
   before = seen files out err
 
@@ -39,14 +41,14 @@ module _ (words : List (List ℕ)) (files : FilesSeen) (out err err2 : SinkSeen)
   same = record { held = refl; faults = refl }
 
   idle : IsIdle before after outcome
-  idle = record { history = empty; end = none; printed = refl; files = same }
+  idle = record { history = unrun.history; end = unrun.end; printed = refl; files = same }
 
   says : (names : List (List ℕ)) → Says names before after outcome
   says names = record {
     unread = [];
     not_read = λ three. absurd (omega (arith, six, three));
-    said = rw six said;
-    said_at_most = rw six at_most;
+    said = rw six line.said;
+    said_at_most = rw six line.said_at_most;
     end_said = λ ended apart. absurd (not_ended ended);
   }
 
@@ -66,12 +68,12 @@ module _ (words : List (List ℕ)) (files : FilesSeen) (out err err2 : SinkSeen)
     ended = λ ended. absurd (not_ended ended);
     unless_memory = λ is. inl idle;
     complete = λ bytes program given source calm. inr six;
-    keeps = KeepsTrace-none limits trace before after outcome none same;
+    keeps = KeepsTrace-none limits trace before after outcome unrun.end same;
     reads = reads file (file ∷ []);
     refused = λ four. absurd (omega (arith, six, four));
     not_written = λ seven. absurd (omega (arith, six, seven));
     idle = λ w. absurd (not_without w);
-    detail = λ apart. nothing;
+    detail = λ apart. unrun.detail;
     says = says (file ∷ []);
   }
 
@@ -88,7 +90,7 @@ module _ (words : List (List ℕ)) (files : FilesSeen) (out err err2 : SinkSeen)
     not_written = λ seven. absurd (omega (arith, six, seven));
     files = same;
     idle = λ w. absurd (not_without w);
-    no_detail = λ s. nothing;
+    no_detail = λ s. unrun.detail;
     says = says (file ∷ trace ∷ []);
     differs_said = λ eight. absurd (omega (arith, six, eight));
   }
@@ -101,11 +103,11 @@ module _ (words : List (List ℕ)) (files : FilesSeen) (out err err2 : SinkSeen)
     reads = reads file (file ∷ []);
     refused = λ four. absurd (omega (arith, six, four));
     not_written = λ seven. absurd (omega (arith, six, seven));
-    no_entries = empty;
-    no_end = none;
+    no_entries = unrun.history;
+    no_end = unrun.end;
     files = same;
     idle = λ apart. idle;
-    detail = λ apart. nothing;
+    detail = λ apart. unrun.detail;
     says = says (file ∷ []);
   }
 
@@ -115,7 +117,7 @@ module _ (words : List (List ℕ)) (files : FilesSeen) (out err err2 : SinkSeen)
     run = λ file limits trace is. run file limits trace;
     replay = λ file trace is. replay file trace;
     check = λ file is. check file;
-    no_command = λ is. record { status = inr six; idle = idle; reads = refl; detail = nothing; says = says [] };
+    no_command = λ is. record { status = inr six; idle = idle; reads = refl; detail = unrun.detail; says = says [] };
     usage = λ two. absurd (omega (arith, six, two));
-    no_count_falls = record { reads = le_refl files.read_faults; writes = le_refl files.write_faults; out = le_refl out.faults; err = later };
+    no_count_falls = record { reads = le_refl files.read_faults; writes = le_refl files.write_faults; out = le_refl out.faults; err = line.later };
   }

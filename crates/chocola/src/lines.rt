@@ -1,7 +1,6 @@
-ghost use Rattle.std.specs.Prelude.{◌≡◌, ◌≤◌, flat_map, IfOk, OnOk};
-ghost use Rattle.std.specs.Io.KnownBytes.{append_known};
-ghost use Rattle.world_io.specs.Taken.{CountsWrite, TookPrefix, Said};
+ghost use Rattle.std.specs.Prelude.{◌≡◌, flat_map, IfOk};
 ghost use Rattle.chocola.specs.Check.{check_line, count_line};
+ghost use Rattle.chocola.specs.LineWritten.{SaysLine, WritesLine};
 ghost use Rattle.chocola.specs.Lines.{usage_line, cannot_read_line, memory_line, detail_line, part_line, source_line, trace_line, differs_line, kind_name, end_line, fault_line};
 
 use crate::outcome::{Detail, Part};
@@ -14,47 +13,35 @@ use world_io::{Failed, Sink, write_all};
 
 /// Says that the words are refused.
 pub fn say_usage<E: Sink>(err: &mut E)
-    ensures prefix { TookPrefix (E.seen err.old).taken (E.seen err.new).taken usage_line }
-    ensures said { Said (E.seen err.old) (E.seen err.new) usage_line }
-    ensures later { (E.seen err.old).faults ≤ (E.seen err.new).faults }
+    ensures { SaysLine usage_line (E.seen err.old) (E.seen err.new) }
 {
     let _ = write_all(b"chocola: bad command line\n", err);
 }
 
 /// Says that there is no memory.
 pub fn say_memory<E: Sink>(err: &mut E)
-    ensures prefix { TookPrefix (E.seen err.old).taken (E.seen err.new).taken memory_line }
-    ensures said { Said (E.seen err.old) (E.seen err.new) memory_line }
-    ensures later { (E.seen err.old).faults ≤ (E.seen err.new).faults }
+    ensures { SaysLine memory_line (E.seen err.old) (E.seen err.new) }
 {
     let _ = write_all(b"out of memory\n", err);
 }
 
 /// Says that the file of that name was not read.
 pub fn say_not_read<E: Sink>(err: &mut E, name: &[u8])
-    ensures prefix { TookPrefix (E.seen err.old).taken (E.seen err.new).taken (cannot_read_line name.now) }
-    ensures said { Said (E.seen err.old) (E.seen err.new) (cannot_read_line name.now) }
-    ensures later { (E.seen err.old).faults ≤ (E.seen err.new).faults }
+    ensures { SaysLine (cannot_read_line name.now) (E.seen err.old) (E.seen err.new) }
 {
     say(err, &[b"cannot read ", name, b"\n"]);
 }
 
 /// Says what is refused.
 pub fn say_refused<E: Sink>(err: &mut E, detail: &Detail)
-    ensures prefix { TookPrefix (E.seen err.old).taken (E.seen err.new).taken (detail_line detail.now) }
-    ensures said { Said (E.seen err.old) (E.seen err.new) (detail_line detail.now) }
-    ensures later { (E.seen err.old).faults ≤ (E.seen err.new).faults }
+    ensures { SaysLine (detail_line detail.now) (E.seen err.old) (E.seen err.new) }
 {
     let _ = write_detail(err, detail);
 }
 
 /// Writes the line of the detail. `Failed` comes only where the count of the sink's faults rose.
 pub fn write_detail<E: Sink>(err: &mut E, detail: &Detail) -> Result<(), Failed>
-    ensures whole { OnOk result ((E.seen err.new).taken ≡ append_known (E.seen err.old).taken (detail_line detail.now)) }
-    ensures prefix { TookPrefix (E.seen err.old).taken (E.seen err.new).taken (detail_line detail.now) }
-    ensures said { Said (E.seen err.old) (E.seen err.new) (detail_line detail.now) }
-    ensures counts { CountsWrite result (E.seen err.old).faults (E.seen err.new).faults }
-    ensures later { (E.seen err.old).faults ≤ (E.seen err.new).faults }
+    ensures { WritesLine (detail_line detail.now) result (E.seen err.old) (E.seen err.new) }
 {
     match detail {
         Detail::Nothing => write_pieces(err, &[]),
@@ -75,11 +62,7 @@ fn write_refusal<E: Sink>(
     line: u64,
     column: u64,
 ) -> Result<(), Failed>
-    ensures whole { OnOk result ((E.seen err.new).taken ≡ append_known (E.seen err.old).taken (part_line part kind line column)) }
-    ensures prefix { TookPrefix (E.seen err.old).taken (E.seen err.new).taken (part_line part kind line column) }
-    ensures said { Said (E.seen err.old) (E.seen err.new) (part_line part kind line column) }
-    ensures counts { CountsWrite result (E.seen err.old).faults (E.seen err.new).faults }
-    ensures later { (E.seen err.old).faults ≤ (E.seen err.new).faults }
+    ensures { WritesLine (part_line part kind line column) result (E.seen err.old) (E.seen err.new) }
 {
     match part {
         Part::Source => write_source(err, part, kind, line, column),
@@ -95,11 +78,7 @@ fn write_source<E: Sink>(
     line: u64,
     column: u64,
 ) -> Result<(), Failed>
-    ensures whole { OnOk result ((E.seen err.new).taken ≡ append_known (E.seen err.old).taken (source_line part kind line column)) }
-    ensures prefix { TookPrefix (E.seen err.old).taken (E.seen err.new).taken (source_line part kind line column) }
-    ensures said { Said (E.seen err.old) (E.seen err.new) (source_line part kind line column) }
-    ensures counts { CountsWrite result (E.seen err.old).faults (E.seen err.new).faults }
-    ensures later { (E.seen err.old).faults ≤ (E.seen err.new).faults }
+    ensures { WritesLine (source_line part kind line column) result (E.seen err.old) (E.seen err.new) }
 {
     let mut line_digits = Buffer::new();
     let mut column_digits = Buffer::new();
@@ -118,11 +97,7 @@ fn write_source<E: Sink>(
 }
 
 fn write_trace_line<E: Sink>(err: &mut E, kind: u8, line: u64) -> Result<(), Failed>
-    ensures whole { OnOk result ((E.seen err.new).taken ≡ append_known (E.seen err.old).taken (trace_line kind line)) }
-    ensures prefix { TookPrefix (E.seen err.old).taken (E.seen err.new).taken (trace_line kind line) }
-    ensures said { Said (E.seen err.old) (E.seen err.new) (trace_line kind line) }
-    ensures counts { CountsWrite result (E.seen err.old).faults (E.seen err.new).faults }
-    ensures later { (E.seen err.old).faults ≤ (E.seen err.new).faults }
+    ensures { WritesLine (trace_line kind line) result (E.seen err.old) (E.seen err.new) }
 {
     let mut line_digits = Buffer::new();
     write_pieces(
@@ -138,11 +113,7 @@ fn write_trace_line<E: Sink>(err: &mut E, kind: u8, line: u64) -> Result<(), Fai
 }
 
 fn write_differs<E: Sink>(err: &mut E, line: u64) -> Result<(), Failed>
-    ensures whole { OnOk result ((E.seen err.new).taken ≡ append_known (E.seen err.old).taken (differs_line line)) }
-    ensures prefix { TookPrefix (E.seen err.old).taken (E.seen err.new).taken (differs_line line) }
-    ensures said { Said (E.seen err.old) (E.seen err.new) (differs_line line) }
-    ensures counts { CountsWrite result (E.seen err.old).faults (E.seen err.new).faults }
-    ensures later { (E.seen err.old).faults ≤ (E.seen err.new).faults }
+    ensures { WritesLine (differs_line line) result (E.seen err.old) (E.seen err.new) }
 {
     let mut line_digits = Buffer::new();
     write_pieces(
@@ -158,11 +129,7 @@ fn write_differs<E: Sink>(err: &mut E, line: u64) -> Result<(), Failed>
 /// Writes how many functions, behaviours and globals the program has. `Failed` comes only where the count of the sink's
 /// faults rose.
 pub fn write_counts<K: Sink>(out: &mut K, program: &Program) -> Result<(), Failed>
-    ensures whole { OnOk result ((K.seen out.new).taken ≡ append_known (K.seen out.old).taken (check_line program.now)) }
-    ensures prefix { TookPrefix (K.seen out.old).taken (K.seen out.new).taken (check_line program.now) }
-    ensures said { Said (K.seen out.old) (K.seen out.new) (check_line program.now) }
-    ensures counts { CountsWrite result (K.seen out.old).faults (K.seen out.new).faults }
-    ensures later { (K.seen out.old).faults ≤ (K.seen out.new).faults }
+    ensures { WritesLine (check_line program.now) result (K.seen out.old) (K.seen out.new) }
 {
     write_numbers(
         out,
@@ -179,11 +146,7 @@ fn write_numbers<K: Sink>(
     behaviours: u32,
     globals: u32,
 ) -> Result<(), Failed>
-    ensures whole { OnOk result ((K.seen out.new).taken ≡ append_known (K.seen out.old).taken (count_line functions behaviours globals)) }
-    ensures prefix { TookPrefix (K.seen out.old).taken (K.seen out.new).taken (count_line functions behaviours globals) }
-    ensures said { Said (K.seen out.old) (K.seen out.new) (count_line functions behaviours globals) }
-    ensures counts { CountsWrite result (K.seen out.old).faults (K.seen out.new).faults }
-    ensures later { (K.seen out.old).faults ≤ (K.seen out.new).faults }
+    ensures { WritesLine (count_line functions behaviours globals) result (K.seen out.old) (K.seen out.new) }
 {
     let mut function_digits = Buffer::new();
     let mut behaviour_digits = Buffer::new();
@@ -204,9 +167,7 @@ fn write_numbers<K: Sink>(
 
 /// Says the pieces, one after the other.
 fn say<E: Sink>(err: &mut E, pieces: &[&[u8]])
-    ensures prefix { TookPrefix (E.seen err.old).taken (E.seen err.new).taken (flat_map (λ piece. piece.now) pieces.now) }
-    ensures said { Said (E.seen err.old) (E.seen err.new) (flat_map (λ piece. piece.now) pieces.now) }
-    ensures later { (E.seen err.old).faults ≤ (E.seen err.new).faults }
+    ensures { SaysLine (flat_map (λ piece. piece.now) pieces.now) (E.seen err.old) (E.seen err.new) }
 {
     let _ = write_pieces(err, pieces);
 }
@@ -214,11 +175,7 @@ fn say<E: Sink>(err: &mut E, pieces: &[&[u8]])
 /// Writes the pieces, one after the other, up to the first that fails. `Failed` comes only where the count of the sink's
 /// faults rose.
 fn write_pieces<K: Sink>(sink: &mut K, pieces: &[&[u8]]) -> Result<(), Failed>
-    ensures whole { OnOk result ((K.seen sink.new).taken ≡ append_known (K.seen sink.old).taken (flat_map (λ piece. piece.now) pieces.now)) }
-    ensures prefix { TookPrefix (K.seen sink.old).taken (K.seen sink.new).taken (flat_map (λ piece. piece.now) pieces.now) }
-    ensures said { Said (K.seen sink.old) (K.seen sink.new) (flat_map (λ piece. piece.now) pieces.now) }
-    ensures counts { CountsWrite result (K.seen sink.old).faults (K.seen sink.new).faults }
-    ensures later { (K.seen sink.old).faults ≤ (K.seen sink.new).faults }
+    ensures { WritesLine (flat_map (λ piece. piece.now) pieces.now) result (K.seen sink.old) (K.seen sink.new) }
 {
     for piece in pieces {
         write_all(piece, sink)?;

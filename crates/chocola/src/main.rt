@@ -8,6 +8,7 @@ mod lines;
 mod load;
 mod load_replay;
 mod outcome;
+mod outside;
 mod replay;
 mod replay_command;
 mod run;

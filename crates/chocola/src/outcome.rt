@@ -1,4 +1,4 @@
-ghost use Rattle.std.specs.Prelude.{◌≡◌, [], None};
+ghost use Rattle.std.specs.Prelude.{◌≡◌};
 
 use scope_check::ScopeKind;
 use serial_model::{End, History, LineKind};
@@ -90,12 +90,11 @@ impl Detail {
 }
 
 impl Outcome {
+    ghost use Rattle.chocola.specs.Unrun.{IsUnrun};
+
     /// The outcome of words that lead to no run.
     pub fn without_run(alloc: Global, status: u8, detail: Detail) -> Self
-        ensures status { result.status ≡ status }
-        ensures history { result.history.items ≡ [] }
-        ensures end { result.end ≡ None }
-        ensures detail { result.detail ≡ detail }
+        ensures { IsUnrun status detail result }
     {
         Outcome {
             status,

@@ -1,21 +1,26 @@
-ghost use Rattle.std.specs.Prelude.{◌≡◌, ◌≢◌, ◌≤◌, ◌⊎◌, ◌+◌, [], None, Some, IfSome, IsOk, IsErr, length};
+ghost use Rattle.std.specs.Prelude.{◌≡◌, ◌⊎◌, ◌+◌, [], None, Some, IfSome, length};
 ghost use Rattle.std.specs.Io.KnownBytes.{append_known};
 ghost use Rattle.serial_model.specs.Replay.{IsOver};
 ghost use Rattle.serial_machine.specs.Progress.{state_of};
-ghost use Rattle.world_io.specs.Counts.{Rose};
 ghost use Rattle.world_io.specs.Taken.{TookPrefix, Said};
-ghost use Rattle.chocola.specs.Lines.{detail_line, end_line, ended_line, given_line, line_of, line_begun};
+ghost use Rattle.chocola.specs.LineWritten.{SaysLine};
+ghost use Rattle.chocola.specs.Lines.{detail_line, end_line, given_line, line_of};
 ghost use Rattle.chocola.specs.Outcome.{IsEnded, Finished, given_status, given_detail};
+ghost use Rattle.chocola.specs.Outside.{seen_before, seen_after};
 ghost use Rattle.chocola.specs.ReplayAnswers.{ReplayAnswers, ReplayOf};
-ghost use Rattle.chocola.specs.Seen.{seen};
+ghost use Rattle.chocola.specs.ReplayWritten.{ReplayWritten};
+ghost use Rattle.chocola.specs.Seen.{IsLater};
 ghost use Rattle.chocola.specs.Status as exit;
+ghost use Rattle.chocola.specs.Unrun.{IsUnrun};
+ghost use Rattle.chocola.specs.WrittenAfter.{WritesAfter};
 
 use crate::lines::{end_line, write_detail};
 use crate::load_replay::{Given, GivenNo, load_replay};
 use crate::outcome::{Detail, Outcome};
+use crate::outside::Outside;
 use crate::replay::{Replayed, replay};
 use crate::run::opened;
-use crate::run_command::say_end_after;
+use crate::run_command::say_end;
 use crate::status::{DIFFERS, NOT_WRITTEN};
 use crate::without::{not_read, out_of_memory, refuse, stopped, without_program};
 use serial_machine::Serial;
@@ -25,26 +30,23 @@ use value_core::Text;
 use world_io::{Failed, Files, Sink, write_all};
 
 /// Replays the trace of that name on the program of that file.
-pub fn replay_file<F: Files, K: Sink, E: Sink>(
+pub fn replay_file<'a, F: Files, K: Sink, E: Sink>(
     alloc: Global,
     file: &Text,
     trace: &Text,
-    files: &mut F,
-    out: &mut K,
-    err: &mut E,
+    outside: Outside<'a, F, K, E>,
 ) -> Outcome
     ensures answers { ReplayAnswers file.now trace.now
-        (seen (F.seen files.old) (K.seen out.old) (E.seen err.old))
-        (seen (F.seen files.new) (K.seen out.new) (E.seen err.new)) result }
-    ensures read_later { (F.seen files.old).read_faults ≤ (F.seen files.new).read_faults }
-    ensures write_later { (F.seen files.old).write_faults ≤ (F.seen files.new).write_faults }
-    ensures out_later { (K.seen out.old).faults ≤ (K.seen out.new).faults }
-    ensures err_later { (E.seen err.old).faults ≤ (E.seen err.new).faults }
+        (seen_before F.seen K.seen E.seen outside.entry)
+        (seen_after F.seen K.seen E.seen outside.exit) result }
+    ensures later { IsLater (seen_before F.seen K.seen E.seen outside.entry) (seen_after F.seen K.seen E.seen outside.exit) }
 {
-    match load_replay(alloc, files, file, trace) {
-        Ok(given) => replay_given(alloc, given, out, err),
-        Err(error) => without_replay(alloc, error, file, trace, err),
-    }
+    let Outside { files, out, err } = outside;
+    let given = match load_replay(alloc, files, file, trace) {
+        Ok(given) => given,
+        Err(error) => return without_replay(alloc, error, file, trace, err),
+    };
+    replay_given(alloc, given, out, err)
 }
 
 /// The outcome where there is no replay of these files.
@@ -55,13 +57,8 @@ fn without_replay<E: Sink>(
     trace: &Text,
     err: &mut E,
 ) -> Outcome
-    ensures status { result.status ≡ given_status error }
-    ensures detail { result.detail ≡ given_detail error }
-    ensures history { result.history.items ≡ [] }
-    ensures end { result.end ≡ None }
-    ensures said { Said (E.seen err.old) (E.seen err.new) (given_line file.now trace.now error) }
-    ensures said_at_most { TookPrefix (E.seen err.old).taken (E.seen err.new).taken (given_line file.now trace.now error) }
-    ensures later { (E.seen err.old).faults ≤ (E.seen err.new).faults }
+    ensures outcome { IsUnrun (given_status error) (given_detail error) result }
+    ensures says { SaysLine (given_line file.now trace.now error) (E.seen err.old) (E.seen err.new) }
 {
     match error {
         GivenNo::Source(error) => without_program(alloc, error, file, err),
@@ -75,15 +72,7 @@ fn without_replay<E: Sink>(
 /// Replays what is given, and writes what it printed and its line.
 fn replay_given<K: Sink, E: Sink>(alloc: Global, given: Given, out: &mut K, err: &mut E) -> Outcome
     ensures replay { ReplayOf given.program given.trace (K.seen out.old) (K.seen out.new) result }
-    ensures not_written { result.status ≡ exit.not_written → Rose (K.seen out.old).faults (K.seen out.new).faults ⊎ Rose (E.seen err.old).faults (E.seen err.new).faults }
-    ensures unfailed { result.status ≢ exit.not_written → result.status ≢ exit.no_memory
-        → ((K.seen out.new).faults ≡ (K.seen out.old).faults) × ((E.seen err.new).faults ≡ (E.seen err.old).faults) }
-    ensures said { Said (E.seen err.old) (E.seen err.new) (line_of [] result.status result.detail result.end) }
-    ensures said_at_most { TookPrefix (E.seen err.old).taken (E.seen err.new).taken (line_begun [] result.status result.detail result.end) }
-    ensures end_said { IsEnded result.status → result.status ≢ exit.not_written → (E.seen err.new).taken ≡ append_known (E.seen err.old).taken (ended_line result.end) }
-    ensures differs_said { result.status ≡ exit.differs → (E.seen err.new).taken ≡ append_known (E.seen err.old).taken (detail_line result.detail) }
-    ensures out_later { (K.seen out.old).faults ≤ (K.seen out.new).faults }
-    ensures err_later { (E.seen err.old).faults ≤ (E.seen err.new).faults }
+    ensures writes { ReplayWritten (K.seen out.old) (K.seen out.new) (E.seen err.old) (E.seen err.new) result }
 {
     let Given { program, trace } = given;
     let Ok(mut serial) = opened(alloc, program, trace.limits) else {
@@ -109,22 +98,15 @@ fn agree<K: Sink, E: Sink>(
     ensures finished { Finished serial.setup (K.seen out.old) (K.seen out.new) result }
     ensures history { result.history.items ≡ serial.history }
     ensures end { IsEnded result.status → result.end ≡ Some end }
-    ensures not_written { result.status ≡ exit.not_written → Rose (K.seen out.old).faults (K.seen out.new).faults ⊎ Rose (E.seen err.old).faults (E.seen err.new).faults }
-    ensures unfailed { result.status ≢ exit.not_written → result.status ≢ exit.no_memory
-        → ((K.seen out.new).faults ≡ (K.seen out.old).faults) × ((E.seen err.new).faults ≡ (E.seen err.old).faults) }
     ensures detail { result.detail ≡ Detail.Nothing }
-    ensures said { Said (E.seen err.old) (E.seen err.new) (line_of [] result.status result.detail result.end) }
-    ensures said_at_most { TookPrefix (E.seen err.old).taken (E.seen err.new).taken (line_begun [] result.status result.detail result.end) }
-    ensures end_said { IsEnded result.status → result.status ≢ exit.not_written → (E.seen err.new).taken ≡ append_known (E.seen err.old).taken (ended_line result.end) }
-    ensures out_later { (K.seen out.old).faults ≤ (K.seen out.new).faults }
-    ensures err_later { (E.seen err.old).faults ≤ (E.seen err.new).faults }
+    ensures writes { ReplayWritten (K.seen out.old) (K.seen out.new) (E.seen err.old) (E.seen err.new) result }
 {
     let Ok(line) = end_line(alloc, &end) else {
         return stopped(serial, err);
     };
     let bytes = serial.output();
     let written = write_all(bytes, out);
-    let status = say_end_after(written, &end, line.as_slice(), err);
+    let status = say_end(written, &end, line.as_slice(), err);
     Outcome {
         status,
         history: serial.into_history(),
@@ -145,15 +127,8 @@ fn differ<K: Sink, E: Sink>(
     ensures finished { Finished serial.setup (K.seen out.old) (K.seen out.new) result }
     ensures history { result.history.items ≡ serial.history }
     ensures end { result.end ≡ None }
-    ensures not_written { result.status ≡ exit.not_written → Rose (K.seen out.old).faults (K.seen out.new).faults ⊎ Rose (E.seen err.old).faults (E.seen err.new).faults }
-    ensures unfailed { result.status ≢ exit.not_written
-        → ((K.seen out.new).faults ≡ (K.seen out.old).faults) × ((E.seen err.new).faults ≡ (E.seen err.old).faults) }
     ensures detail { result.detail ≡ Detail.Differs (3 + length serial.history) stated found }
-    ensures differs_said { result.status ≡ exit.differs → (E.seen err.new).taken ≡ append_known (E.seen err.old).taken (detail_line result.detail) }
-    ensures said { Said (E.seen err.old) (E.seen err.new) (line_of [] result.status result.detail result.end) }
-    ensures said_at_most { TookPrefix (E.seen err.old).taken (E.seen err.new).taken (line_begun [] result.status result.detail result.end) }
-    ensures out_later { (K.seen out.old).faults ≤ (K.seen out.new).faults }
-    ensures err_later { (E.seen err.old).faults ≤ (E.seen err.new).faults }
+    ensures writes { ReplayWritten (K.seen out.old) (K.seen out.new) (E.seen err.old) (E.seen err.new) result }
 {
     let detail = Detail::Differs {
         line: line_after(serial.history().entries()),
@@ -181,13 +156,10 @@ fn line_after(entries: &[Entry]) -> u64
 /// something was not written.
 fn say_differs_after<E: Sink>(written: Result<(), Failed>, detail: &Detail, err: &mut E) -> u8
     ensures status { (result ≡ exit.not_written) ⊎ (result ≡ exit.differs) }
-    ensures unwritten { IsErr written → result ≡ exit.not_written }
-    ensures fault { result ≡ exit.not_written → IsErr written ⊎ Rose (E.seen err.old).faults (E.seen err.new).faults }
-    ensures unfailed { result ≢ exit.not_written → IsOk written × ((E.seen err.new).faults ≡ (E.seen err.old).faults) }
+    ensures after { WritesAfter written (E.seen err.old) (E.seen err.new) result }
     ensures whole { result ≡ exit.differs → (E.seen err.new).taken ≡ append_known (E.seen err.old).taken (detail_line detail.now) }
     ensures said { Said (E.seen err.old) (E.seen err.new) (line_of [] result detail.now None) }
     ensures said_at_most { TookPrefix (E.seen err.old).taken (E.seen err.new).taken (detail_line detail.now) }
-    ensures later { (E.seen err.old).faults ≤ (E.seen err.new).faults }
 {
     match written {
         Ok(()) => match write_detail(err, detail) {

@@ -1,23 +1,26 @@
-ghost use Rattle.std.specs.Prelude.{◌≡◌, ◌≢◌, ◌≤◌, ◌⊎◌, [], Some, IfSome, IsSome, IsOk, IsErr, IsErrOf, OnOk};
-ghost use Rattle.std.specs.Io.KnownBytes.{append_known};
+ghost use Rattle.std.specs.Prelude.{◌≡◌, ◌≢◌, ◌≤◌, Some, IfSome, IsSome, IsErrOf, OnOk};
 ghost use Rattle.serial_model.specs.Replay.{IsOver, status};
 ghost use Rattle.serial_model.specs.Trace.{trace_text};
 ghost use Rattle.serial_machine.specs.Progress.{state_of};
-ghost use Rattle.world_io.specs.Counts.{Rose};
 ghost use Rattle.world_io.specs.Held.{told, IsHeld};
-ghost use Rattle.world_io.specs.Taken.{TookPrefix, Said};
 ghost use Rattle.world_io.specs.Writes.{CountsFileWrite};
-ghost use Rattle.chocola.specs.Lines.{end_line, ended_line, line_of, line_begun};
-ghost use Rattle.chocola.specs.Outcome.{IsEnded, Finished, end_unless_memory};
+ghost use Rattle.chocola.specs.EndWritten.{EndWritten};
+ghost use Rattle.chocola.specs.Lines.{end_line};
+ghost use Rattle.chocola.specs.Outcome.{IsEnded, end_unless_memory};
+ghost use Rattle.chocola.specs.Outside.{seen_before, seen_after};
+ghost use Rattle.chocola.specs.ProgramAnswers.{ProgramAnswers};
 ghost use Rattle.chocola.specs.RunAnswers.{RunAnswers};
-ghost use Rattle.chocola.specs.Seen.{NoWriteFailed, seen};
-ghost use Rattle.chocola.specs.Traced.{KeepsTrace, KeepsOthers};
+ghost use Rattle.chocola.specs.SaysOutcome.{SaysOutcome};
+ghost use Rattle.chocola.specs.Seen.{IsLater};
+ghost use Rattle.chocola.specs.Traced.{KeepsOthers};
 ghost use Rattle.chocola.specs.Status as exit;
+ghost use Rattle.chocola.specs.WrittenAfter.{WritesAfter};
 
 use crate::ends::end_status;
 use crate::lines::{end_line, say_memory};
 use crate::load::load;
 use crate::outcome::{Detail, Outcome};
+use crate::outside::Outside;
 use crate::run::{opened, run_to_end};
 use crate::status::{NO_MEMORY, NOT_WRITTEN};
 use crate::without::{out_of_memory, stopped, without_program};
@@ -30,69 +33,64 @@ use value_core::Text;
 use world_io::{Failed, Files, Sink, WriteNo, write_all};
 
 /// Runs the program of that file within the limits, and keeps the trace of the run under the name that is given for it.
-pub fn run_file<F: Files, K: Sink, E: Sink>(
+pub fn run_file<'a, F: Files, K: Sink, E: Sink>(
     alloc: Global,
     file: &Text,
     limits: Limits,
     trace: &Option<Text>,
-    files: &mut F,
-    out: &mut K,
-    err: &mut E,
+    outside: Outside<'a, F, K, E>,
 ) -> Outcome
     ensures answers { RunAnswers file.now limits trace.now
-        (seen (F.seen files.old) (K.seen out.old) (E.seen err.old))
-        (seen (F.seen files.new) (K.seen out.new) (E.seen err.new)) result }
-    ensures read_later { (F.seen files.old).read_faults ≤ (F.seen files.new).read_faults }
-    ensures write_later { (F.seen files.old).write_faults ≤ (F.seen files.new).write_faults }
-    ensures out_later { (K.seen out.old).faults ≤ (K.seen out.new).faults }
-    ensures err_later { (E.seen err.old).faults ≤ (E.seen err.new).faults }
+        (seen_before F.seen K.seen E.seen outside.entry)
+        (seen_after F.seen K.seen E.seen outside.exit) result }
+    ensures later { IsLater (seen_before F.seen K.seen E.seen outside.entry) (seen_after F.seen K.seen E.seen outside.exit) }
 {
-    match load(alloc, files, file) {
-        Ok(program) => run_program(alloc, program, limits, trace, files, out, err),
-        Err(error) => without_program(alloc, error, file, err),
+    match load(alloc, outside.files, file) {
+        Ok(program) => run_program(alloc, program, limits, trace, outside),
+        Err(error) => without_program(alloc, error, file, outside.err),
     }
 }
 
+/// What a run hands out, with the line of its end.
+#[derive(Drop)]
+struct Ran {
+    trace: Trace,
+    line: Vec<u8>,
+    ghost of_end: { line.items ≡ end_line trace.end },
+}
+
 /// Runs the program, and writes what it printed, its trace and the line of its end.
-fn run_program<F: Files, K: Sink, E: Sink>(
+fn run_program<'a, F: Files, K: Sink, E: Sink>(
     alloc: Global,
     program: Program,
     limits: Limits,
     trace: &Option<Text>,
-    files: &mut F,
-    out: &mut K,
-    err: &mut E,
+    outside: Outside<'a, F, K, E>,
 ) -> Outcome
-    ensures statuses { IsEnded result.status ⊎ (result.status ≡ exit.no_memory) }
-    ensures finished { Finished (record { program = program; limits = limits }) (K.seen out.old) (K.seen out.new) result }
-    ensures ended { IsEnded result.status → IsSome result.end }
-    ensures trace { KeepsTrace limits trace.now
-        (seen (F.seen files.old) (K.seen out.old) (E.seen err.old))
-        (seen (F.seen files.new) (K.seen out.new) (E.seen err.new)) result }
-    ensures not_written { result.status ≡ exit.not_written → Rose (K.seen out.old).faults (K.seen out.new).faults
-        ⊎ (Rose (E.seen err.old).faults (E.seen err.new).faults ⊎ Rose (F.seen files.old).write_faults (F.seen files.new).write_faults) }
-    ensures unfailed { result.status ≢ exit.not_written → result.status ≢ exit.no_memory → NoWriteFailed
-        (seen (F.seen files.old) (K.seen out.old) (E.seen err.old))
-        (seen (F.seen files.new) (K.seen out.new) (E.seen err.new)) }
-    ensures detail { result.detail ≡ Detail.Nothing }
-    ensures said { Said (E.seen err.old) (E.seen err.new) (line_of [] result.status result.detail result.end) }
-    ensures said_at_most { TookPrefix (E.seen err.old).taken (E.seen err.new).taken (line_begun [] result.status result.detail result.end) }
-    ensures end_said { IsEnded result.status → result.status ≢ exit.not_written → (E.seen err.new).taken ≡ append_known (E.seen err.old).taken (ended_line result.end) }
-    ensures reads { (F.seen files.new).read_faults ≡ (F.seen files.old).read_faults }
-    ensures write_later { (F.seen files.old).write_faults ≤ (F.seen files.new).write_faults }
-    ensures out_later { (K.seen out.old).faults ≤ (K.seen out.new).faults }
-    ensures err_later { (E.seen err.old).faults ≤ (E.seen err.new).faults }
+    ensures answers { ProgramAnswers (record { program = program; limits = limits }) trace.now
+        (seen_before F.seen K.seen E.seen outside.entry)
+        (seen_after F.seen K.seen E.seen outside.exit) result }
+    ensures later { IsLater (seen_before F.seen K.seen E.seen outside.entry) (seen_after F.seen K.seen E.seen outside.exit) }
 {
+    let Outside { files, out, err } = outside;
     let Ok(mut serial) = opened(alloc, program, limits) else {
         return out_of_memory(alloc, err);
     };
-    match run_with_line(alloc, &mut serial, limits) {
-        Some((end, line)) => {
-            let line = line.as_slice();
-            finish(alloc, serial, limits, end, line, trace, files, out, err)
-        }
-        None => stopped(serial, err),
-    }
+    let Some((end, line)) = run_with_line(alloc, &mut serial, limits) else {
+        return stopped(serial, err);
+    };
+    let written = write_all(serial.output(), out);
+    let history = serial.into_history();
+    let ran = Ran {
+        trace: Trace {
+            limits,
+            history,
+            end,
+        },
+        line,
+    };
+    let status = keep_and_say(alloc, written, &ran, trace, files, err);
+    outcome_of(status, ran)
 }
 
 /// Runs to the end, which is answered with its line, where there is memory for both.
@@ -107,60 +105,15 @@ fn run_with_line(alloc: Global, serial: &mut Serial, limits: Limits) -> Option<(
     Some((end, line))
 }
 
-/// Writes what the run printed, and then its trace and the line of its end.
-fn finish<F: Files, K: Sink, E: Sink>(
-    alloc: Global,
-    serial: Serial,
-    limits: Limits,
-    end: End,
-    line: &[u8],
-    trace: &Option<Text>,
-    files: &mut F,
-    out: &mut K,
-    err: &mut E,
-) -> Outcome
-    requires limits { serial.setup.limits ≡ limits }
-    requires over { IfSome (state_of serial) (λ s. IsOver serial.setup s end) }
-    requires line { line.now ≡ end_line end }
-    ensures statuses { IsEnded result.status ⊎ (result.status ≡ exit.no_memory) }
-    ensures finished { Finished serial.setup (K.seen out.old) (K.seen out.new) result }
-    ensures ended { IsEnded result.status → IsSome result.end }
-    ensures trace { KeepsTrace limits trace.now
-        (seen (F.seen files.old) (K.seen out.old) (E.seen err.old))
-        (seen (F.seen files.new) (K.seen out.new) (E.seen err.new)) result }
-    ensures not_written { result.status ≡ exit.not_written → Rose (K.seen out.old).faults (K.seen out.new).faults
-        ⊎ (Rose (E.seen err.old).faults (E.seen err.new).faults ⊎ Rose (F.seen files.old).write_faults (F.seen files.new).write_faults) }
-    ensures unfailed { result.status ≢ exit.not_written → result.status ≢ exit.no_memory → NoWriteFailed
-        (seen (F.seen files.old) (K.seen out.old) (E.seen err.old))
-        (seen (F.seen files.new) (K.seen out.new) (E.seen err.new)) }
-    ensures detail { result.detail ≡ Detail.Nothing }
-    ensures said { Said (E.seen err.old) (E.seen err.new) (line_of [] result.status result.detail result.end) }
-    ensures said_at_most { TookPrefix (E.seen err.old).taken (E.seen err.new).taken (line_begun [] result.status result.detail result.end) }
-    ensures end_said { IsEnded result.status → result.status ≢ exit.not_written → (E.seen err.new).taken ≡ append_known (E.seen err.old).taken (ended_line result.end) }
-    ensures reads { (F.seen files.new).read_faults ≡ (F.seen files.old).read_faults }
-    ensures write_later { (F.seen files.old).write_faults ≤ (F.seen files.new).write_faults }
-    ensures out_later { (K.seen out.old).faults ≤ (K.seen out.new).faults }
-    ensures err_later { (E.seen err.old).faults ≤ (E.seen err.new).faults }
-{
-    let written = write_all(serial.output(), out);
-    let history = serial.into_history();
-    let ran = Trace {
-        limits,
-        history,
-        end,
-    };
-    let status = keep_and_say(alloc, written, &ran, line, trace, files, err);
-    outcome_of(status, ran)
-}
-
 /// The outcome of a run with that status.
-fn outcome_of(status: u8, ran: Trace) -> Outcome
+fn outcome_of(status: u8, ran: Ran) -> Outcome
     ensures status { result.status ≡ status }
-    ensures history { result.history ≡ ran.history }
-    ensures end { result.end ≡ end_unless_memory status ran.end }
+    ensures history { result.history ≡ ran.trace.history }
+    ensures end { result.end ≡ end_unless_memory status ran.trace.end }
     ensures detail { result.detail ≡ Detail.Nothing }
 {
-    let Trace { history, end, .. } = ran;
+    let Ran { trace, .. } = ran;
+    let Trace { history, end, .. } = trace;
     let end = if status == NO_MEMORY { None } else { Some(end) };
     Outcome {
         status,
@@ -175,35 +128,18 @@ fn outcome_of(status: u8, ran: Trace) -> Outcome
 fn keep_and_say<F: Files, E: Sink>(
     alloc: Global,
     written: Result<(), Failed>,
-    ran: &Trace,
-    line: &[u8],
+    ran: &Ran,
     trace: &Option<Text>,
     files: &mut F,
     err: &mut E,
 ) -> u8
-    requires { line.now ≡ end_line ran.now.end }
-    ensures status { IsEnded result ⊎ (result ≡ exit.no_memory) }
-    ensures of_end { result ≢ exit.not_written → result ≢ exit.no_memory → status ran.now.end ≡ result }
-    ensures holds { IsOk written → IsEnded result → (result ≡ exit.not_written → Rose (F.seen files.old).write_faults (F.seen files.new).write_faults → ⊥)
-        → IfSome trace.now (λ name. IsHeld (told (F.seen files.new).held name) (trace_text ran.now)) }
-    ensures others { KeepsOthers trace.now (F.seen files.old).held (F.seen files.new).held (F.seen files.old).write_faults (F.seen files.new).write_faults }
-    ensures unwritten { IsErr written → (result ≡ exit.not_written) × ((F.seen files.new).held ≡ (F.seen files.old).held) × ((F.seen files.new).write_faults ≡ (F.seen files.old).write_faults) }
-    ensures untouched { result ≡ exit.no_memory → ((F.seen files.new).held ≡ (F.seen files.old).held) × ((F.seen files.new).write_faults ≡ (F.seen files.old).write_faults) }
-    ensures unfailed { result ≢ exit.not_written → result ≢ exit.no_memory
-        → IsOk written × ((E.seen err.new).faults ≡ (E.seen err.old).faults) × ((F.seen files.new).write_faults ≡ (F.seen files.old).write_faults) }
-    ensures fault { result ≡ exit.not_written → IsErr written ⊎ (Rose (E.seen err.old).faults (E.seen err.new).faults ⊎ Rose (F.seen files.old).write_faults (F.seen files.new).write_faults) }
-    ensures said { Said (E.seen err.old) (E.seen err.new) (line_of [] result Detail.Nothing (Some ran.now.end)) }
-    ensures said_at_most { TookPrefix (E.seen err.old).taken (E.seen err.new).taken (line_begun [] result Detail.Nothing (Some ran.now.end)) }
-    ensures end_said { IsEnded result → result ≢ exit.not_written → (E.seen err.new).taken ≡ append_known (E.seen err.old).taken (end_line ran.now.end) }
-    ensures reads { (F.seen files.new).read_faults ≡ (F.seen files.old).read_faults }
-    ensures write_later { (F.seen files.old).write_faults ≤ (F.seen files.new).write_faults }
-    ensures err_later { (E.seen err.old).faults ≤ (E.seen err.new).faults }
+    ensures { EndWritten written ran.now.trace trace.now (F.seen files.old) (F.seen files.new) (E.seen err.old) (E.seen err.new) result }
 {
     if written.is_err() {
         return NOT_WRITTEN;
     }
-    match keep(alloc, ran, trace, files) {
-        Ok(()) => say_end(&ran.end, line, err),
+    match keep(alloc, &ran.trace, trace, files) {
+        Ok(()) => say_end(written, &ran.trace.end, ran.line.as_slice(), err),
         Err(WriteNo::Failed) => NOT_WRITTEN,
         Err(WriteNo::Memory) => {
             say_memory(err);
@@ -235,44 +171,20 @@ fn keep<F: Files>(
     }
 }
 
-/// Writes the line of the end, and answers its status, or 7 where the line was not written.
-fn say_end<E: Sink>(end: &End, line: &[u8], err: &mut E) -> u8
+/// Writes the line of the end, where the bytes before it were written, and answers its status, or 7 where something was
+/// not written.
+pub fn say_end<E: Sink>(written: Result<(), Failed>, end: &End, line: &[u8], err: &mut E) -> u8
     requires { line.now ≡ end_line end.now }
     ensures status { IsEnded result }
     ensures of_end { result ≢ exit.not_written → status end.now ≡ result }
-    ensures fault { result ≡ exit.not_written → Rose (E.seen err.old).faults (E.seen err.new).faults }
-    ensures unfailed { result ≢ exit.not_written → (E.seen err.new).faults ≡ (E.seen err.old).faults }
-    ensures said { Said (E.seen err.old) (E.seen err.new) (line_of [] result Detail.Nothing (Some end.now)) }
-    ensures said_at_most { TookPrefix (E.seen err.old).taken (E.seen err.new).taken (line_begun [] result Detail.Nothing (Some end.now)) }
-    ensures end_said { result ≢ exit.not_written → (E.seen err.new).taken ≡ append_known (E.seen err.old).taken (end_line end.now) }
-    ensures later { (E.seen err.old).faults ≤ (E.seen err.new).faults }
-{
-    match write_all(line, err) {
-        Ok(()) => end_status(end),
-        Err(_) => NOT_WRITTEN,
-    }
-}
-
-/// The same, where the bytes before it were written, and else 7.
-pub fn say_end_after<E: Sink>(
-    written: Result<(), Failed>,
-    end: &End,
-    line: &[u8],
-    err: &mut E,
-) -> u8
-    requires { line.now ≡ end_line end.now }
-    ensures status { IsEnded result }
-    ensures of_end { result ≢ exit.not_written → status end.now ≡ result }
-    ensures unwritten { IsErr written → result ≡ exit.not_written }
-    ensures fault { result ≡ exit.not_written → IsErr written ⊎ Rose (E.seen err.old).faults (E.seen err.new).faults }
-    ensures unfailed { result ≢ exit.not_written → IsOk written × ((E.seen err.new).faults ≡ (E.seen err.old).faults) }
-    ensures said { Said (E.seen err.old) (E.seen err.new) (line_of [] result Detail.Nothing (Some end.now)) }
-    ensures said_at_most { TookPrefix (E.seen err.old).taken (E.seen err.new).taken (line_begun [] result Detail.Nothing (Some end.now)) }
-    ensures end_said { result ≢ exit.not_written → (E.seen err.new).taken ≡ append_known (E.seen err.old).taken (end_line end.now) }
-    ensures later { (E.seen err.old).faults ≤ (E.seen err.new).faults }
+    ensures after { WritesAfter written (E.seen err.old) (E.seen err.new) result }
+    ensures says { SaysOutcome result Detail.Nothing (Some end.now) (E.seen err.old) (E.seen err.new) }
 {
     match written {
-        Ok(()) => say_end(end, line, err),
+        Ok(()) => match write_all(line, err) {
+            Ok(()) => end_status(end),
+            Err(_) => NOT_WRITTEN,
+        },
         Err(_) => NOT_WRITTEN,
     }
 }

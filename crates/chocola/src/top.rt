@@ -6,6 +6,7 @@ ghost use Rattle.chocola.specs.Seen.{seen};
 use crate::check_command::check_file;
 use crate::lines::say_usage;
 use crate::outcome::{Detail, Outcome};
+use crate::outside::Outside;
 use crate::replay_command::replay_file;
 use crate::run_command::run_file;
 use crate::status::USAGE;
@@ -41,6 +42,7 @@ pub fn chocola<F: Files, K: Sink + Send, E: Sink>(
         let after = seen (F.seen files.new) (K.seen out.new) (E.seen err.new) in
         Answers (map string_bytes words.now) before after result }
 {
+    let outside = Outside { files, out, err };
     match read_words(alloc, words) {
         Ok(
             Command::Run {
@@ -48,15 +50,13 @@ pub fn chocola<F: Files, K: Sink + Send, E: Sink>(
                 limits,
                 trace,
             },
-        ) => run_file(alloc, &file, limits, &trace, files, out, err),
-        Ok(Command::Replay { file, trace }) => {
-            replay_file(alloc, &file, &trace, files, out, err)
-        }
-        Ok(Command::Check { file }) => check_file(alloc, &file, files, out, err),
+        ) => run_file(alloc, &file, limits, &trace, outside),
+        Ok(Command::Replay { file, trace }) => { replay_file(alloc, &file, &trace, outside) }
+        Ok(Command::Check { file }) => check_file(alloc, &file, outside),
         Err(WordsNo::Usage) => {
-            say_usage(err);
+            say_usage(outside.err);
             Outcome::without_run(alloc, USAGE, Detail::Nothing)
         }
-        Err(WordsNo::Memory) => out_of_memory(alloc, err),
+        Err(WordsNo::Memory) => out_of_memory(alloc, outside.err),
     }
 }

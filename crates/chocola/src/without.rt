@@ -1,8 +1,9 @@
-ghost use Rattle.std.specs.Prelude.{◌≡◌, ◌≤◌, [], None};
-ghost use Rattle.world_io.specs.Taken.{TookPrefix, Said};
+ghost use Rattle.std.specs.Prelude.{◌≡◌, None};
+ghost use Rattle.chocola.specs.LineWritten.{SaysLine};
 ghost use Rattle.chocola.specs.Lines.{cannot_read_line, memory_line, detail_line, load_line};
 ghost use Rattle.chocola.specs.Outcome.{load_status, load_detail};
 ghost use Rattle.chocola.specs.Status as exit;
+ghost use Rattle.chocola.specs.Unrun.{IsUnrun};
 
 use crate::lines::{say_memory, say_not_read, say_refused};
 use crate::load::LoadNo;
@@ -15,13 +16,8 @@ use world_io::Sink;
 
 /// The outcome where the file of that name gives no program.
 pub fn without_program<E: Sink>(alloc: Global, error: LoadNo, name: &Text, err: &mut E) -> Outcome
-    ensures status { result.status ≡ load_status error }
-    ensures detail { result.detail ≡ load_detail error }
-    ensures history { result.history.items ≡ [] }
-    ensures end { result.end ≡ None }
-    ensures said { Said (E.seen err.old) (E.seen err.new) (load_line name.now error) }
-    ensures said_at_most { TookPrefix (E.seen err.old).taken (E.seen err.new).taken (load_line name.now error) }
-    ensures later { (E.seen err.old).faults ≤ (E.seen err.new).faults }
+    ensures outcome { IsUnrun (load_status error) (load_detail error) result }
+    ensures says { SaysLine (load_line name.now error) (E.seen err.old) (E.seen err.new) }
 {
     match error {
         LoadNo::NotRead => not_read(alloc, name, err),
@@ -33,13 +29,8 @@ pub fn without_program<E: Sink>(alloc: Global, error: LoadNo, name: &Text, err: 
 
 /// Says that the file of that name was not read.
 pub fn not_read<E: Sink>(alloc: Global, name: &Text, err: &mut E) -> Outcome
-    ensures status { result.status ≡ exit.not_read }
-    ensures detail { result.detail ≡ Detail.Nothing }
-    ensures history { result.history.items ≡ [] }
-    ensures end { result.end ≡ None }
-    ensures said { Said (E.seen err.old) (E.seen err.new) (cannot_read_line name.now) }
-    ensures said_at_most { TookPrefix (E.seen err.old).taken (E.seen err.new).taken (cannot_read_line name.now) }
-    ensures later { (E.seen err.old).faults ≤ (E.seen err.new).faults }
+    ensures outcome { IsUnrun exit.not_read Detail.Nothing result }
+    ensures says { SaysLine (cannot_read_line name.now) (E.seen err.old) (E.seen err.new) }
 {
     say_not_read(err, name.items());
     Outcome::without_run(alloc, NOT_READ, Detail::Nothing)
@@ -47,13 +38,8 @@ pub fn not_read<E: Sink>(alloc: Global, name: &Text, err: &mut E) -> Outcome
 
 /// Refuses what the detail says.
 pub fn refuse<E: Sink>(alloc: Global, detail: Detail, err: &mut E) -> Outcome
-    ensures status { result.status ≡ exit.refused }
-    ensures detail { result.detail ≡ detail }
-    ensures history { result.history.items ≡ [] }
-    ensures end { result.end ≡ None }
-    ensures said { Said (E.seen err.old) (E.seen err.new) (detail_line detail) }
-    ensures said_at_most { TookPrefix (E.seen err.old).taken (E.seen err.new).taken (detail_line detail) }
-    ensures later { (E.seen err.old).faults ≤ (E.seen err.new).faults }
+    ensures outcome { IsUnrun exit.refused detail result }
+    ensures says { SaysLine (detail_line detail) (E.seen err.old) (E.seen err.new) }
 {
     say_refused(err, &detail);
     Outcome::without_run(alloc, REFUSED, detail)
@@ -61,13 +47,8 @@ pub fn refuse<E: Sink>(alloc: Global, detail: Detail, err: &mut E) -> Outcome
 
 /// Says that there is no memory.
 pub fn out_of_memory<E: Sink>(alloc: Global, err: &mut E) -> Outcome
-    ensures status { result.status ≡ exit.no_memory }
-    ensures detail { result.detail ≡ Detail.Nothing }
-    ensures history { result.history.items ≡ [] }
-    ensures end { result.end ≡ None }
-    ensures said { Said (E.seen err.old) (E.seen err.new) memory_line }
-    ensures said_at_most { TookPrefix (E.seen err.old).taken (E.seen err.new).taken memory_line }
-    ensures later { (E.seen err.old).faults ≤ (E.seen err.new).faults }
+    ensures outcome { IsUnrun exit.no_memory Detail.Nothing result }
+    ensures says { SaysLine memory_line (E.seen err.old) (E.seen err.new) }
 {
     say_memory(err);
     Outcome::without_run(alloc, NO_MEMORY, Detail::Nothing)
@@ -79,9 +60,7 @@ pub fn stopped<E: Sink>(serial: Serial, err: &mut E) -> Outcome
     ensures detail { result.detail ≡ Detail.Nothing }
     ensures history { result.history.items ≡ serial.history }
     ensures end { result.end ≡ None }
-    ensures said { Said (E.seen err.old) (E.seen err.new) memory_line }
-    ensures said_at_most { TookPrefix (E.seen err.old).taken (E.seen err.new).taken memory_line }
-    ensures later { (E.seen err.old).faults ≤ (E.seen err.new).faults }
+    ensures says { SaysLine memory_line (E.seen err.old) (E.seen err.new) }
 {
     say_memory(err);
     Outcome {

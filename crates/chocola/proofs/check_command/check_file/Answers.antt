@@ -5,16 +5,10 @@ use Rattle.chocola.proofs.check_command.check_file.Goals as goal
 pub returns-in-Ok-clause-answers : goal.returns-in-Ok-clause-answers
 returns-in-Ok-clause-answers g c =
     check_loaded c.args.file.now _ _ c.tell_counts.result c.in-Ok.program c.in-Ok.ensures.loads.0
-    c.tell_counts.ensures.status c.tell_counts.ensures.prefix c.tell_counts.ensures.whole c.tell_counts.ensures.fault c.tell_counts.ensures.unfailed c.tell_counts.ensures.history c.tell_counts.ensures.end
-    c.tell_counts.ensures.detail (record { held = c.in-Ok.ensures.same; faults = c.in-Ok.ensures.writes }) refl c.in-Ok.ensures.loads.1
+    c.tell_counts.ensures.status c.tell_counts.ensures.prefix c.tell_counts.ensures.whole c.tell_counts.ensures.fault c.tell_counts.ensures.unfailed c.tell_counts.ensures.outcome
+    (record { held = c.in-Ok.ensures.same; faults = c.in-Ok.ensures.writes }) refl c.in-Ok.ensures.loads.1
 
 pub returns-in-Err-clause-answers : goal.returns-in-Err-clause-answers
 returns-in-Err-clause-answers g c =
-    check_error c.args.file.now _ _ c.without_program.result c.in-Err.error c.in-Err.ensures.loads c.without_program.ensures.status c.without_program.ensures.detail
-    (record {
-      history = c.without_program.ensures.history;
-      end = c.without_program.ensures.end;
-      printed = refl;
-      files = record { held = c.in-Err.ensures.same; faults = c.in-Err.ensures.writes };
-    })
-    c.without_program.ensures.said c.without_program.ensures.said_at_most
+    check_error c.args.file.now _ _ c.without_program.result c.in-Err.error c.in-Err.ensures.loads c.without_program.ensures.outcome refl
+    (record { held = c.in-Err.ensures.same; faults = c.in-Err.ensures.writes }) c.without_program.ensures.says

@@ -1,12 +1,19 @@
-use Rattle.chocola.proofs.Finishes.{Finished-of, none_counted, wrote_whole}
+use Rattle.std.proofs.Common.{inl}
+use Rattle.chocola.proofs.Finishes.{Finished-of, wrote_whole}
+use Rattle.chocola.proofs.Replaying.{ReplayWritten-of, not_eight}
+use Rattle.chocola.proofs.Stopped.{ReplayWritten-stopped}
 use Rattle.chocola.proofs.replay_command.agree.Goals as goal
+
+pub returns-in_default-clause-writes : goal.returns-in_default-clause-writes
+returns-in_default-clause-writes g c = ReplayWritten-stopped c.stopped.result c.stopped.ensures.status _ _ _ c.stopped.ensures.says
 
 pub returns-clause-finished : goal.returns-clause-finished
 returns-clause-finished g c =
     Finished-of c.args.serial _ c.output-bytes.result.now (g.K.Sink.seen c.args.out.now) (g.K.Sink.seen c.write_all-written.new.sink) c.into_history.ensures c.output-bytes.ensures.replays c.output-bytes.ensures.bytes c.requires c.write_all-written.ensures.prefix
-    (wrote_whole c.write_all-written.result c.say_end_after-status.result (g.K.Sink.seen c.args.out.now) (g.K.Sink.seen c.write_all-written.new.sink) _ c.write_all-written.ensures.counts c.say_end_after-status.ensures.unwritten c.write_all-written.ensures.whole)
-    c.say_end_after-status.ensures.of_end
+    (wrote_whole c.write_all-written.result c.say_end-status.result (g.K.Sink.seen c.args.out.now) (g.K.Sink.seen c.write_all-written.new.sink) _ c.write_all-written.ensures.counts c.say_end-status.ensures.after.unwritten c.write_all-written.ensures.whole)
+    c.say_end-status.ensures.of_end
 
-pub returns-clause-unfailed : goal.returns-clause-unfailed
-returns-clause-unfailed g c seven six =
-    (none_counted c.write_all-written.result _ _ c.write_all-written.ensures.counts (c.say_end_after-status.ensures.unfailed seven).0, (c.say_end_after-status.ensures.unfailed seven).1)
+pub returns-clause-writes : goal.returns-clause-writes
+returns-clause-writes g c =
+    ReplayWritten-of c.write_all-written.result _ _ _ _ _ c.write_all-written.ensures.counts c.write_all-written.ensures.later c.say_end-status.ensures.after
+    c.say_end-status.ensures.says (λ eight. absurd (not_eight c.say_end-status.result (inl c.say_end-status.ensures.status) eight))

@@ -1,16 +1,23 @@
-use Rattle.std.proofs.Common.{refl}
+use Rattle.std.proofs.Common.{refl, inl, inr, rules}
 use Rattle.std.specs.Prelude.{None}
 use Rattle.serial_machine.specs.Progress.{state_of}
-use Rattle.chocola.proofs.Finishes.{Finished-of, no_end, none_counted, wrote_whole}
+use Rattle.chocola.proofs.Finishes.{Finished-of, no_end, wrote_whole}
+use Rattle.chocola.proofs.Replaying.{ReplayWritten-of, not_eight}
 use Rattle.chocola.proofs.replay_command.differ.Goals as goal
 
 pub returns-clause-finished : goal.returns-clause-finished
 returns-clause-finished g c =
     Finished-of c.args.serial _ c.output.result.now (g.K.Sink.seen c.args.out.now) (g.K.Sink.seen c.write_all-written.new.sink) c.into_history.ensures c.output.ensures.replays c.output.ensures.bytes (no_end (state_of c.args.serial) c.args.serial.setup None refl)
     c.write_all-written.ensures.prefix
-    (wrote_whole c.write_all-written.result c.say_differs_after-status.result (g.K.Sink.seen c.args.out.now) (g.K.Sink.seen c.write_all-written.new.sink) _ c.write_all-written.ensures.counts c.say_differs_after-status.ensures.unwritten c.write_all-written.ensures.whole)
+    (wrote_whole c.write_all-written.result c.say_differs_after-status.result (g.K.Sink.seen c.args.out.now) (g.K.Sink.seen c.write_all-written.new.sink) _ c.write_all-written.ensures.counts c.say_differs_after-status.ensures.after.unwritten c.write_all-written.ensures.whole)
     (λ e. tt)
 
-pub returns-clause-unfailed : goal.returns-clause-unfailed
-returns-clause-unfailed g c seven =
-    (none_counted c.write_all-written.result _ _ c.write_all-written.ensures.counts (c.say_differs_after-status.ensures.unfailed seven).0, (c.say_differs_after-status.ensures.unfailed seven).1)
+pub returns-clause-writes : goal.returns-clause-writes
+returns-clause-writes g c =
+    ReplayWritten-of c.write_all-written.result _ _ _ _ _ c.write_all-written.ensures.counts c.write_all-written.ensures.later c.say_differs_after-status.ensures.after
+    (record {
+      said = c.say_differs_after-status.ensures.said;
+      said_at_most = search rules;
+      end_said = λ ended apart. absurd (elim c.say_differs_after-status.ensures.status [ inl e ↦ apart e | inr e ↦ not_eight c.say_differs_after-status.result (inl ended) e ]);
+    })
+    c.say_differs_after-status.ensures.whole

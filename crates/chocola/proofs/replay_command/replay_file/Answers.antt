@@ -3,19 +3,12 @@ use Rattle.chocola.proofs.Answered.{replay_loaded}
 use Rattle.chocola.proofs.Unreplayed.{replay_error}
 use Rattle.chocola.proofs.replay_command.replay_file.Goals as goal
 
-pub returns-in-Ok-clause-answers : goal.returns-in-Ok-clause-answers
-returns-in-Ok-clause-answers g c =
+pub returns-clause-answers : goal.returns-clause-answers
+returns-clause-answers g c =
     replay_loaded c.args.file.now c.args.trace.now _ _ c.replay_given.result c.in-Ok.given.program c.in-Ok.given.trace c.in-Ok.ensures.loads.0 c.in-Ok.ensures.loads.1 c.in-Ok.ensures.loads.2
-    c.replay_given.ensures.replay c.replay_given.ensures.unfailed c.replay_given.ensures.not_written (record { held = c.in-Ok.ensures.same; faults = c.in-Ok.ensures.writes })
-    c.replay_given.ensures.said c.replay_given.ensures.said_at_most c.replay_given.ensures.end_said c.replay_given.ensures.differs_said
+    c.replay_given.ensures.replay c.replay_given.ensures.writes (record { held = c.in-Ok.ensures.same; faults = c.in-Ok.ensures.writes })
 
 pub returns-in-Err-clause-answers : goal.returns-in-Err-clause-answers
 returns-in-Err-clause-answers g c =
-    replay_error c.args.file.now c.args.trace.now _ _ c.without_replay.result c.in-Err.error c.in-Err.ensures.loads c.without_replay.ensures.status c.without_replay.ensures.detail
-    (record {
-      history = c.without_replay.ensures.history;
-      end = c.without_replay.ensures.end;
-      printed = refl;
-      files = record { held = c.in-Err.ensures.same; faults = c.in-Err.ensures.writes };
-    })
-    c.without_replay.ensures.said c.without_replay.ensures.said_at_most
+    replay_error c.args.file.now c.args.trace.now _ _ c.without_replay.result c.in-Err.error c.in-Err.ensures.loads c.without_replay.ensures.outcome refl
+    (record { held = c.in-Err.ensures.same; faults = c.in-Err.ensures.writes }) c.without_replay.ensures.says

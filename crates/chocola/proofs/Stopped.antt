@@ -1,0 +1,47 @@
+-- A run or a replay that stopped for want of memory.
+use Rattle.std.proofs.Common.{◌≡◌, ℕ, List, refl, subst, inr, arith, le_refl}
+use Rattle.std.specs.Prelude.{Option, None}
+use Rattle.serial_model.specs.State.{Setup}
+use Rattle.world_io.specs.Seen.{SinkSeen}
+use Rattle.chocola.specs.declared.outcome.Outcome.{Outcome}
+use Rattle.chocola.specs.declared.outcome.Detail.TheVariants.{Nothing}
+use Rattle.chocola.specs.LineWritten.{SaysLine}
+use Rattle.chocola.specs.Lines.{memory_line}
+use Rattle.chocola.specs.Outcome.{IsEnded, Finished}
+use Rattle.chocola.specs.ProgramAnswers.{ProgramAnswers}
+use Rattle.chocola.specs.ReplayWritten.{ReplayWritten}
+use Rattle.chocola.specs.SaysOutcome.{SaysOutcome}
+use Rattle.chocola.specs.Seen.{Seen}
+use Rattle.chocola.proofs.Answering.{six_not_ended}
+use Rattle.chocola.proofs.Tracing.{KeepsTrace-none}
+
+module _ (outcome : Outcome) (six : outcome.status ≡ 6) where
+  not_ended : IsEnded outcome.status → ⊥
+  not_ended ended = six_not_ended (subst IsEnded six ended)
+
+  says : (old new : SinkSeen) → SaysLine memory_line old new → SaysOutcome outcome.status outcome.detail outcome.end old new
+  says old new line = record { said = rw six line.said; said_at_most = rw six line.said_at_most; end_said = λ ended written. absurd (not_ended ended) }
+
+  pub ProgramAnswers-stopped : (setup : Setup) (trace : Option (List ℕ)) (before : Seen) (err : SinkSeen) → outcome.detail ≡ Nothing → outcome.end ≡ None
+      → Finished setup before.out before.out outcome → SaysLine memory_line before.err err → ProgramAnswers setup trace before (record before { err = err }) outcome
+  ProgramAnswers-stopped setup trace before err nothing none finished line = record {
+    statuses = inr six;
+    finished = finished;
+    ended = λ ended. absurd (not_ended ended);
+    keeps = KeepsTrace-none setup.limits trace before (record before { err = err }) outcome none (record { held = refl; faults = refl });
+    not_written = λ seven. absurd (omega (arith, six, seven));
+    unfailed = λ apart apart_six. absurd (apart_six six);
+    detail = nothing;
+    says = says before.err err line;
+    reads = refl;
+  }
+
+  pub ReplayWritten-stopped : (out err err_after : SinkSeen) → SaysLine memory_line err err_after → ReplayWritten out out err err_after outcome
+  ReplayWritten-stopped out err err_after line = record {
+    not_written = λ seven. absurd (omega (arith, six, seven));
+    unfailed = λ apart apart_six. absurd (apart_six six);
+    says = says err err_after line;
+    differs_said = λ eight. absurd (omega (arith, six, eight));
+    out_later = le_refl out.faults;
+    err_later = line.later;
+  }
