@@ -5,5 +5,5 @@ pub mod acts;
 mod copies;
 mod log;
 
-pub use copies::copy_effect;
+pub use copies::{copy_effect, copy_names};
 pub use log::TaskLog;
