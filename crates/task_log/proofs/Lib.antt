@@ -1,1 +1,2 @@
+pub mod CopiedMaps
 pub mod EffectMarks

@@ -1,5 +1,5 @@
-// What a request of a task adds to its log, with the answer.
-ghost use Rattle.std.specs.Prelude.{IfOk};
+// What a request of a task adds to its log, with the answer. For want of memory the log stays.
+ghost use Rattle.std.specs.Prelude.{◌≡◌, IfOk, OnErr};
 ghost use Rattle.value_core.specs.declared.value.Value.TheVariants as value;
 ghost use Rattle.value_core.specs.Named.{made_by};
 ghost use Rattle.serial_model.specs.declared.answer.Answer.TheVariants as answer;
@@ -14,7 +14,8 @@ use value_core::{Name, Text, Value, Values};
 
 /// A print is answered with nil.
 pub fn print(alloc: Global, log: &mut TaskLog, text: Text) -> Result<Answer, AllocError>
-    ensures { IfOk result (λ found. IsDone log.new (with_effect log.old (what.Bytes text)) found (answer.Value value.Nil)) }
+    ensures done { IfOk result (λ found. IsDone log.new (with_effect log.old (what.Bytes text)) found (answer.Value value.Nil)) }
+    ensures same { OnErr result (log.new ≡ log.old) }
 {
     log.act(alloc, What::Bytes(text))?;
     Ok(Answer::Value(Value::Nil))
@@ -22,12 +23,12 @@ pub fn print(alloc: Global, log: &mut TaskLog, text: Text) -> Result<Answer, All
 
 /// A new ref is the next thing that the task makes.
 pub fn new_ref(alloc: Global, log: &mut TaskLog, content: Value) -> Result<Answer, AllocError>
-    ensures { IfOk result (λ found. IsDone log.new (with_made (with_write log.old (made_by log.old.name log.old.made) content))
+    ensures done { IfOk result (λ found. IsDone log.new (with_made (with_write log.old (made_by log.old.name log.old.made) content))
         found (answer.Value (value.Ref (made_by log.old.name log.old.made)))) }
+    ensures same { OnErr result (log.new ≡ log.old) }
 {
     let name = log.next_made(alloc)?;
-    log.write(name.copy(alloc)?, content)?;
-    log.count_made()?;
+    log.make_ref(alloc, content)?;
     Ok(Answer::Value(Value::Ref(name)))
 }
 
@@ -38,7 +39,8 @@ pub fn set_ref(
     name: Name,
     content: Value,
 ) -> Result<Answer, AllocError>
-    ensures { IfOk result (λ found. IsDone log.new (with_write log.old name content) found (answer.Value content)) }
+    ensures done { IfOk result (λ found. IsDone log.new (with_write log.old name content) found (answer.Value content)) }
+    ensures same { OnErr result (log.new ≡ log.old) }
 {
     let answer = content.copy(alloc)?;
     log.write(name, content)?;
@@ -52,12 +54,12 @@ pub fn spawn(
     behaviour: u32,
     state: Values,
 ) -> Result<Answer, AllocError>
-    ensures { IfOk result (λ found. IsDone log.new (with_made (with_effect log.old (what.Spawn (made_by log.old.name log.old.made) behaviour state)))
+    ensures done { IfOk result (λ found. IsDone log.new (with_made (with_effect log.old (what.Spawn (made_by log.old.name log.old.made) behaviour state)))
         found (answer.Value (value.Actor (made_by log.old.name log.old.made)))) }
+    ensures same { OnErr result (log.new ≡ log.old) }
 {
     let name = log.next_made(alloc)?;
-    log.act(alloc, What::Spawn(name.copy(alloc)?, behaviour, state))?;
-    log.count_made()?;
+    log.make_actor(alloc, behaviour, state)?;
     Ok(Answer::Value(Value::Actor(name)))
 }
 
@@ -68,7 +70,8 @@ pub fn send(
     actor: Name,
     message: Values,
 ) -> Result<Answer, AllocError>
-    ensures { IfOk result (λ found. IsDone log.new (with_effect log.old (what.Send actor message)) found (answer.Value value.Nil)) }
+    ensures done { IfOk result (λ found. IsDone log.new (with_effect log.old (what.Send actor message)) found (answer.Value value.Nil)) }
+    ensures same { OnErr result (log.new ≡ log.old) }
 {
     log.act(alloc, What::Send(actor, message))?;
     Ok(Answer::Value(Value::Nil))
@@ -81,7 +84,8 @@ pub fn turn_into(
     behaviour: u32,
     state: Values,
 ) -> Result<Answer, AllocError>
-    ensures { IfOk result (λ found. IsDone log.new (with_effect log.old (what.Become behaviour state)) found (answer.Value value.Nil)) }
+    ensures done { IfOk result (λ found. IsDone log.new (with_effect log.old (what.Become behaviour state)) found (answer.Value value.Nil)) }
+    ensures same { OnErr result (log.new ≡ log.old) }
 {
     log.act(alloc, What::Become(behaviour, state))?;
     Ok(Answer::Value(Value::Nil))

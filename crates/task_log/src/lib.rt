@@ -2,6 +2,8 @@
 #![tactic(auto)]
 
 pub mod acts;
+mod copies;
 mod log;
 
+pub use copies::copy_names;
 pub use log::TaskLog;

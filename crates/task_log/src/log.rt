@@ -2,15 +2,17 @@ ghost use Rattle.std.specs.Prelude.{◌≡◌, ◌∷◌, ◌++◌, [], IfOk, On
 ghost use Rattle.std.specs.Option.{option_copied};
 ghost use Rattle.serial_model.specs.Log.{merged, new_log, with_effect, with_made as made_more, with_write, with_missing, is_held as held_in};
 ghost use Rattle.serial_model.specs.declared.effect.Effect.{Effect as Effecting};
+ghost use Rattle.serial_model.specs.declared.effect.What.TheVariants as what;
 ghost use Rattle.task_log.specs.Logged.{mark_of};
 ghost use Rattle.value_core.specs.Named.{is_among, named, over, made_by, with_name, Rises};
 
+use crate::copies::{copy_effects, copy_names, copy_set, copy_writes};
 use serial_model::{Effect, What};
 use std::alloc::{AllocError, Global};
 use std::collections::{BTreeMap, BTreeSet};
 use std::marker::Model;
 use value_core::name_map::{find, put};
-use value_core::{Name, Value};
+use value_core::{Name, Value, Values};
 
 /// What a task of a transaction has done so far.
 #[derive(Drop)]
@@ -64,6 +66,22 @@ impl TaskLog {
         }
     }
 
+    /// An equal log.
+    pub fn copy(&self, alloc: Global) -> Result<Self, AllocError>
+        ensures { IfOk result (λ copied. copied ≡ self.now) }
+    {
+        Ok(TaskLog {
+            name: self.name.copy(alloc)?,
+            writes: copy_writes(alloc, &self.writes)?,
+            joined: copy_names(alloc, &self.joined)?,
+            among_joined: copy_set(alloc, &self.among_joined)?,
+            made: self.made,
+            own: self.own,
+            effects: copy_effects(alloc, &self.effects)?,
+            held: copy_set(alloc, &self.held)?,
+        })
+    }
+
     /// The name of the next thing that the task makes.
     pub fn next_made(&self, alloc: Global) -> Result<Name, AllocError>
         ensures { IfOk result (λ name. name ≡ made_by self.now.name self.now.made) }
@@ -110,9 +128,10 @@ impl TaskLog {
         put(&mut self.writes, name, value)
     }
 
-    /// Adds an effect of the task itself.
+    /// Adds an effect of the task itself. For want of memory the log stays.
     pub fn act(&mut self, alloc: Global, what: What) -> Result<(), AllocError>
-        ensures { OnOk result (self.new ≡ with_effect self.old what) }
+        ensures acted { OnOk result (self.new ≡ with_effect self.old what) }
+        ensures same { OnErr result (self.new ≡ self.old) }
     {
         let mark = self.name.child(alloc, self.own)?;
         let task = self.name.copy(alloc)?;
@@ -121,14 +140,46 @@ impl TaskLog {
             number: self.own,
             what,
         };
-        self.own = self.own.checked_add(1).ok_or(AllocError)?;
-        self.append(mark, effect)
+        let own = self.own.checked_add(1).ok_or(AllocError)?;
+        self.append(mark, effect)?;
+        self.own = own;
+        Ok(())
     }
 
-    /// Appends an effect with its mark.
+    /// Makes a ref of that value, the next thing that the task makes. For want of memory the log stays.
+    pub(crate) fn make_ref(&mut self, alloc: Global, value: Value) -> Result<(), AllocError>
+        ensures written { OnOk result (self.new ≡ made_more (with_write self.old (made_by self.old.name self.old.made) value)) }
+        ensures same { OnErr result (self.new ≡ self.old) }
+    {
+        let name = self.next_made(alloc)?;
+        let made = self.made.checked_add(1).ok_or(AllocError)?;
+        self.write(name, value)?;
+        self.made = made;
+        Ok(())
+    }
+
+    /// Makes an actor of that behaviour and state, the next thing that the task makes. For want of memory the log stays.
+    pub(crate) fn make_actor(
+        &mut self,
+        alloc: Global,
+        behaviour: u32,
+        state: Values,
+    ) -> Result<(), AllocError>
+        ensures spawned { OnOk result (self.new ≡ made_more (with_effect self.old (what.Spawn (made_by self.old.name self.old.made) behaviour state))) }
+        ensures same { OnErr result (self.new ≡ self.old) }
+    {
+        let name = self.next_made(alloc)?;
+        let made = self.made.checked_add(1).ok_or(AllocError)?;
+        self.act(alloc, What::Spawn(name, behaviour, state))?;
+        self.made = made;
+        Ok(())
+    }
+
+    /// Appends an effect with its mark. For want of memory the log stays.
     fn append(&mut self, mark: Name, effect: Effect) -> Result<(), AllocError>
         requires { mark ≡ mark_of effect }
-        ensures { OnOk result (self.new ≡ record self.old { effects = self.old.effects ++ effect ∷ [] }) }
+        ensures appended { OnOk result (self.new ≡ record self.old { effects = self.old.effects ++ effect ∷ [] }) }
+        ensures same { OnErr result (self.new ≡ self.old) }
     {
         self.effects.reserve(1)?;
         match self.held.insert(mark) {
@@ -152,8 +203,20 @@ impl TaskLog {
     pub fn merge(&mut self, alloc: Global, child: &TaskLog) -> Result<(), AllocError>
         ensures { OnOk result (self.new ≡ merged self.old child.now) }
     {
+        self.merge_as(alloc, &child.name, child)
+    }
+
+    /// Merges the log of a child as that of the future.
+    pub fn merge_as(
+        &mut self,
+        alloc: Global,
+        future: &Name,
+        child: &TaskLog,
+    ) -> Result<(), AllocError>
+        ensures { OnOk result (self.new ≡ merged self.old (record child.now { name = future.now })) }
+    {
         self.take_writes(alloc, child)?;
-        self.take_joined(alloc, child)?;
+        self.take_joined(alloc, future, child)?;
         self.take_effects(alloc, child)
     }
 
@@ -167,10 +230,15 @@ impl TaskLog {
         Ok(())
     }
 
-    fn take_joined(&mut self, alloc: Global, child: &TaskLog) -> Result<(), AllocError>
-        ensures { OnOk result (self.new ≡ record self.old { joined = fold with_name (with_name self.old.joined child.now.name) child.now.joined }) }
+    fn take_joined(
+        &mut self,
+        alloc: Global,
+        future: &Name,
+        child: &TaskLog,
+    ) -> Result<(), AllocError>
+        ensures { OnOk result (self.new ≡ record self.old { joined = fold with_name (with_name self.old.joined future.now) child.now.joined }) }
     {
-        self.count_joined(alloc, &child.name)?;
+        self.count_joined(alloc, future)?;
         for name in &child.joined {
             self.count_joined(alloc, name)?;
         }
@@ -226,6 +294,13 @@ impl TaskLog {
         ensures { result.now.entries ≡ self.now.writes }
     {
         &self.writes
+    }
+
+    /// The effects in their order.
+    pub fn effects(&self) -> &[Effect]
+        ensures { result.now ≡ self.now.effects }
+    {
+        self.effects.as_slice()
     }
 
     /// The effects in their order; the log is given up for them.

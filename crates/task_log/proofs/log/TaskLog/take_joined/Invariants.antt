@@ -4,6 +4,6 @@ use Rattle.task_log.proofs.log.TaskLog.take_joined.Given as goal
 
 abbrev pub invariant-loop-name : goal.invariant-loop-name
 invariant-loop-name l = record {
-  left : fold with_name l.self.joined (drop l.name-index l.child.joined) ≡ fold with_name (with_name l.fn.self.joined l.child.name) l.child.joined;
+  left : fold with_name l.self.joined (drop l.name-index l.child.joined) ≡ fold with_name (with_name l.fn.self.joined l.future) l.child.joined;
   others : l.self ≡ record l.fn.self { joined = l.self.joined };
 }

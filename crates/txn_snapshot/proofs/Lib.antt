@@ -1,0 +1,4 @@
+pub mod ReadLaws
+pub mod ReadsAgree
+pub mod Replies
+pub mod TreeAnswers

@@ -1,0 +1,4 @@
+pub mod Laws
+pub mod Reads
+pub mod SnapshotAnswer
+pub mod SnapshotTask

@@ -1,0 +1,258 @@
+ghost use Rattle.std.specs.Prelude.{◌≡◌, false, Some, IfOk, OnErr, OnOk};
+ghost use Rattle.std.specs.Option.{option_copied, option_or};
+ghost use Rattle.serial_model.specs.Ahead.{answer_ahead};
+ghost use Rattle.serial_model.specs.Task.{done_by};
+ghost use Rattle.txn_snapshot.specs.SnapshotAnswer.{reads_ref, replies, sets_ref, snapshot_of, IsAnswerable, NamesRef};
+ghost use Rattle.txn_snapshot.specs.SnapshotTask.{having_forked, having_merged, new_task, private, Stays};
+ghost use Rattle.value_core.specs.Named.{is_among, made_by, over};
+
+use crate::views::{copy_view, view_over};
+use crate::{Answered, ForkView, Reads};
+use ref_store::{Store, Writes};
+use serial_model::{Answer, Effect, Request};
+use std::alloc::{AllocError, Global};
+use std::collections::BTreeMap;
+use std::marker::Model;
+use task_log::TaskLog as OwnLog;
+use task_log::acts::{new_ref, print, send, set_ref, spawn, turn_into};
+use value_core::lists::copy_list;
+use value_core::{Code, Name, Value};
+
+/// What a task of a transaction has done so far on a snapshot of the refs, and which refs it has read there.
+#[derive(Drop)]
+pub struct TaskLog {
+    log: OwnLog,
+    base: Writes,
+    depth: u32,
+    actor: Option<Name>,
+    reads: Reads,
+}
+
+impl Model for TaskLog {
+    ghost use Rattle.txn_snapshot.specs.SnapshotTask.{snapshot_task_code, SnapshotTask};
+
+    ghost Value = { SnapshotTask };
+
+    ghost coded = { snapshot_task_code };
+
+    ghost view = { λ t. record { log = t.log; base = t.base.items; depth = t.depth; actor = t.actor; reads = t.reads.items } };
+}
+
+impl TaskLog {
+    /// The log of a task that has done nothing: of that name, with the view that it was forked with, so many forks below the
+    /// root, in a turn of that actor or in none. It takes no memory.
+    pub fn new(alloc: Global, name: Name, view: Writes, depth: u32, actor: Option<Name>) -> Self
+        ensures { result ≡ new_task name view.items depth actor }
+    {
+        TaskLog {
+            log: OwnLog::new(alloc, name),
+            base: view,
+            depth,
+            actor,
+            reads: Reads::new(alloc),
+        }
+    }
+
+    /// An equal log.
+    pub fn copy(&self, alloc: Global) -> Result<Self, AllocError>
+        ensures { IfOk result (λ copied. copied ≡ self.now) }
+    {
+        let actor = copy_actor(alloc, &self.actor)?;
+        Ok(TaskLog {
+            log: self.log.copy(alloc)?,
+            base: copy_view(alloc, &self.base)?,
+            depth: self.depth,
+            actor,
+            reads: self.reads.copy(alloc)?,
+        })
+    }
+
+    /// Answers the request on the store at the snapshot. A ref is read in the own writes, then in the view, then in the
+    /// store, and in the last case it counts as read. `NotInSnapshot` comes exactly where a deref or a ref-set names a ref
+    /// that is in none of them, and then the log stays. For want of memory the log stays.
+    #[tactic(auto, using(crate::proofs::Replies::stays))]
+    pub fn answer(
+        &mut self,
+        alloc: Global,
+        request: &Request,
+        store: &Store,
+        snapshot: u64,
+    ) -> Result<Answered, AllocError>
+        requires { IsAnswerable request.now }
+        ensures answered { IfOk result (λ found. replies (snapshot_of store.now.versions snapshot) self.old request.now ≡ Some (found, self.new)) }
+        ensures stays { OnOk result (Stays self.old self.new) }
+        ensures same { OnErr result (self.new ≡ self.old) }
+    {
+        match request {
+            Request::Deref(name) => self.read(alloc, name, store.read_at(name, snapshot)),
+            Request::RefSet(name, content) => {
+                self.set(alloc, name, content, store.read_at(name, snapshot))
+            }
+            _ => {
+                let given = act(&mut self.log, alloc, &self.actor, request)?;
+                Ok(Answered::Now(given))
+            }
+        }
+    }
+
+    /// Answers a deref of the ref, of which the store has this value.
+    fn read(
+        &mut self,
+        alloc: Global,
+        name: &Name,
+        stored: Option<&Value>,
+    ) -> Result<Answered, AllocError>
+        ensures read { IfOk result (λ found. (found, self.new) ≡ reads_ref self.old name.now (private self.old name.now) (option_copied stored.entry)) }
+        ensures same { OnErr result (self.new ≡ self.old) }
+    {
+        if let Some(value) = self.private(name) {
+            return Ok(Answered::Now(Answer::Value(value.copy(alloc)?)));
+        }
+        match stored {
+            Some(value) => {
+                let given = value.copy(alloc)?;
+                self.reads.put(name.copy(alloc)?)?;
+                Ok(Answered::Now(Answer::Value(given)))
+            }
+            None => Ok(Answered::NotInSnapshot(name.copy(alloc)?)),
+        }
+    }
+
+    /// Answers a ref-set of the ref, of which the store has this value.
+    fn set(
+        &mut self,
+        alloc: Global,
+        name: &Name,
+        content: &Value,
+        stored: Option<&Value>,
+    ) -> Result<Answered, AllocError>
+        ensures set { IfOk result (λ found. (found, self.new) ≡ sets_ref self.old name.now content.now (option_or (private self.old name.now) (option_copied stored.entry))) }
+        ensures same { OnErr result (self.new ≡ self.old) }
+    {
+        if self.private(name).is_none() && stored.is_none() {
+            return Ok(Answered::NotInSnapshot(name.copy(alloc)?));
+        }
+        let name = name.copy(alloc)?;
+        let content = content.copy(alloc)?;
+        Ok(Answered::Now(set_ref(alloc, &mut self.log, name, content)?))
+    }
+
+    /// The value of the ref in the own writes, or else in the view.
+    fn private(&self, name: &Name) -> Option<&Value>
+        ensures { option_copied result ≡ private self.now name.now }
+    {
+        match self.log.written(name) {
+            Some(value) => Some(value),
+            None => self.base.get(name),
+        }
+    }
+
+    /// Counts one thing made, and gives it as a future, with the view of a child that is forked now: the own writes over the
+    /// own view. For want of memory, as at 4,294,967,295 things, the log stays.
+    pub fn fork(&mut self, alloc: Global) -> Result<ForkView, AllocError>
+        ensures future { IfOk result (λ forked. forked.future ≡ made_by self.old.log.name self.old.log.made) }
+        ensures view { IfOk result (λ forked. forked.view.items ≡ over self.old.log.writes self.old.base) }
+        ensures made { OnOk result (self.new ≡ having_forked self.old) }
+        ensures same { OnErr result (self.new ≡ self.old) }
+    {
+        let future = self.log.next_made(alloc)?;
+        let view = view_over(alloc, self.log.writes(), &self.base)?;
+        self.log.count_made()?;
+        Ok(ForkView { future, view })
+    }
+
+    /// Merges the log of the future, a task that is joined for the first time: its writes prevail, its effects that are not
+    /// there yet are appended in order, it counts as joined, with all that it has joined, and what it has read counts as
+    /// read. For want of memory the log stays.
+    pub fn merge(&mut self, alloc: Global, future: &Name, child: &TaskLog) -> Result<(), AllocError>
+        requires { is_among future.now self.old.log.joined ≡ false }
+        ensures merged { OnOk result (self.new ≡ having_merged self.old future.now child.now) }
+        ensures same { OnErr result (self.new ≡ self.old) }
+    {
+        let mut log = self.log.copy(alloc)?;
+        log.merge_as(alloc, future, &child.log)?;
+        self.reads = self.reads.union(alloc, &child.reads)?;
+        self.log = log;
+        Ok(())
+    }
+
+    /// Whether the task has joined the future. It takes no memory.
+    pub fn has_joined(&self, future: &Name) -> bool
+        ensures { result ≡ is_among future.now self.now.log.joined }
+    {
+        self.log.has_joined(future)
+    }
+
+    /// The effects of the task, and those that came by joins, in order. It takes no memory.
+    pub fn effects(&self) -> &[Effect]
+        ensures { result.now ≡ self.now.log.effects }
+    {
+        self.log.effects()
+    }
+
+    /// The refs that the task wrote, and those that came by joins, with their values. It takes no memory.
+    pub fn writes(&self) -> &BTreeMap<Name, Value>
+        ensures { result.now.entries ≡ self.now.log.writes }
+    {
+        self.log.writes()
+    }
+
+    /// The refs that the task read from the store, and those that came by joins, in after-order. It takes no memory.
+    pub fn reads(&self) -> &Reads
+        ensures { result.now.items ≡ self.now.reads }
+    {
+        &self.reads
+    }
+
+    /// How many forks the task is below the root. It takes no memory.
+    pub fn depth(&self) -> u32
+        ensures { result ≡ self.now.depth }
+    {
+        self.depth
+    }
+}
+
+/// Does what the request asks for, and answers it, where that rests on no ref.
+fn act(
+    log: &mut OwnLog,
+    alloc: Global,
+    actor: &Option<Name>,
+    request: &Request,
+) -> Result<Answer, AllocError>
+    requires answerable { IsAnswerable request.now }
+    requires no_ref { ¬ NamesRef request.now }
+    ensures answer { IfOk result (λ given. answer_ahead actor.now (made_by log.old.name log.old.made) request.now ≡ Some given) }
+    ensures log { IfOk result (λ _. log.new ≡ done_by actor.now log.old request.now) }
+    ensures same { OnErr result (log.new ≡ log.old) }
+{
+    match request {
+        Request::Print(text) => print(alloc, log, text.copy(alloc)?),
+        Request::NewRef(content) => new_ref(alloc, log, content.copy(alloc)?),
+        Request::Spawn(behaviour, state) => {
+            spawn(alloc, log, *behaviour, copy_list(alloc, state.items())?)
+        }
+        Request::Send(to, message) => {
+            let message = copy_list(alloc, message.items())?;
+            send(alloc, log, to.copy(alloc)?, message)
+        }
+        Request::Become(behaviour, state) => match actor {
+            Some(_) => turn_into(alloc, log, *behaviour, copy_list(alloc, state.items())?),
+            None => Ok(Answer::Fault(Code::NoTurn)),
+        },
+        Request::SelfActor => match actor {
+            Some(actor) => Ok(Answer::Value(Value::Actor(actor.copy(alloc)?))),
+            None => Ok(Answer::Fault(Code::NoTurn)),
+        },
+        _ => unreachable!(),
+    }
+}
+
+/// The same actor, or none.
+fn copy_actor(alloc: Global, actor: &Option<Name>) -> Result<Option<Name>, AllocError>
+    ensures { IfOk result (λ copied. copied ≡ actor.now) }
+{
+    match actor {
+        Some(name) => Ok(Some(name.copy(alloc)?)),
+        None => Ok(None),
+    }
+}
