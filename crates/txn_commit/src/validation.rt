@@ -3,16 +3,17 @@ ghost use Rattle.txn_commit.specs.Conflict.{IsChanged, IsFirstConflict, IsUnchan
 
 use crate::Conflict;
 use ref_store::{Store, Version};
+use txn_snapshot::Reads;
 use value_core::Name;
 
 /// Whether each ref that was read has no version above the snapshot, so that it still reads as it did there. The first of
 /// the others is the conflict. It takes no memory.
-pub fn validate(reads: &[Name], store: &Store, snapshot: u64) -> Result<(), Conflict>
-    ensures unchanged { OnOk result (All (IsUnchanged store.now.versions snapshot) reads.now) }
-    ensures reads_as_then { OnOk result (All (ReadsAsThen store.now.versions snapshot) reads.now) }
-    ensures conflict { IfErr result (IsFirstConflict reads.now store.now.versions snapshot) }
+pub fn validate(reads: &Reads, store: &Store, snapshot: u64) -> Result<(), Conflict>
+    ensures unchanged { OnOk result (All (IsUnchanged store.now.versions snapshot) reads.now.items) }
+    ensures reads_as_then { OnOk result (All (ReadsAsThen store.now.versions snapshot) reads.now.items) }
+    ensures conflict { IfErr result (IsFirstConflict reads.now.items store.now.versions snapshot) }
 {
-    for (index, read) in reads.iter().enumerate() {
+    for (index, read) in reads.items().iter().enumerate() {
         if let Some(version) = version_above(store, read, snapshot) {
             return Err(Conflict { index, version });
         }
