@@ -1,8 +1,10 @@
-ghost use Rattle.std.specs.Prelude.{◌≡◌};
+ghost use Rattle.std.specs.Prelude.{◌≡◌, IfOk};
+ghost use Rattle.eval_step.specs.declared.control.Control.TheVariants.{Halted};
 ghost use Rattle.eval_step.specs.Answered.{answered, behind, halt_answered};
 
 use core_syntax::NodeId;
 use serial_model::{Answer, Halt};
+use std::alloc::{AllocError, Global};
 use value_core::{Place, Value};
 
 /// Where a machine stands.
@@ -28,6 +30,16 @@ impl Control {
         match self {
             Control::Halted(halt) => halt_answered(halt, answer),
             other => other,
+        }
+    }
+
+    /// An equal halt to that where the machine stops.
+    pub fn copied_halt(&self, alloc: Global) -> Result<Halt, AllocError>
+        ensures { IfOk result (λ halt. self.now ≡ Halted halt) }
+    {
+        match self {
+            Control::Halted(halt) => halt.copy(alloc),
+            _ => Err(AllocError),
         }
     }
 }

@@ -43,14 +43,11 @@ impl Walk {
         ensures at { IfOk result (λ stop. self.old.control ≡ Halted stop) }
         ensures err { OnErr result (FailedAt self.new.control) }
     {
-        match mem::replace(&mut self.control, Control::Failed) {
-            Control::Halted(halt) => {
-                let copied = halt.copy(alloc)?;
-                self.control = Control::Halted(halt);
-                Ok(copied)
-            }
-            _ => Err(AllocError),
+        let copied = self.control.copied_halt(alloc);
+        if copied.is_err() {
+            self.control = Control::Failed;
         }
+        copied
     }
 
     /// Goes on behind the request, with its answer.
