@@ -13,7 +13,16 @@ pub fn validate(reads: &Reads, store: &Store, snapshot: u64) -> Result<(), Confl
     ensures reads_as_then { OnOk result (All (ReadsAsThen store.now.versions snapshot) reads.now.items) }
     ensures conflict { IfErr result (IsFirstConflict reads.now.items store.now.versions snapshot) }
 {
-    for (index, read) in reads.items().iter().enumerate() {
+    validate_each(reads.items(), store, snapshot)
+}
+
+/// The same of these refs.
+fn validate_each(reads: &[Name], store: &Store, snapshot: u64) -> Result<(), Conflict>
+    ensures unchanged { OnOk result (All (IsUnchanged store.now.versions snapshot) reads.now) }
+    ensures reads_as_then { OnOk result (All (ReadsAsThen store.now.versions snapshot) reads.now) }
+    ensures conflict { IfErr result (IsFirstConflict reads.now store.now.versions snapshot) }
+{
+    for (index, read) in reads.iter().enumerate() {
         if let Some(version) = version_above(store, read, snapshot) {
             return Err(Conflict { index, version });
         }
