@@ -1,10 +1,11 @@
 -- The tickets of a pool as a finite map.
-use Rattle.std.proofs.Common.{◌≡◌, ◌≢◌, ℕ, ◌+◌, ◌<◌, ◌==◌, Bool, true, false, length, Option, Some, None, if◌then◌else◌, refl, sym, ap, ◌∙◌, inl, inr, ◌⊎◌, arith}
+use Rattle.std.proofs.Common.{◌≡◌, ◌≢◌, ℕ, ◌+◌, ◌<◌, ◌≤◌, ◌==◌, Bool, true, false, length, Option, Some, None, if◌then◌else◌, refl, sym, ap, ◌∙◌, inl, inr, ◌⊎◌, arith}
 use Rattle.std.proofs.lemmas.Bool.{cases_eq, cases_lt, eq-eqb}
 use Rattle.std.proofs.lemmas.Bool.Decides.{eqb_tells}
 use Rattle.std.proofs.lemmas.List.{get_or-set_same, get_or-set_other, get_or_past}
 use Rattle.value_core.specs.declared.ticket.Ticket.{Ticket}
-use Rattle.record_pool.specs.Pool.{Pool, place_at, read, find, with_record, Puts, Gives}
+use Rattle.record_pool.specs.Pool.{Pool, place_at, next_of, read, find, with_record, Puts, Gives}
+use Rattle.piece_table.specs.Table.{HasMoreRoom, IsGiven, IsPut}
 
 pub same_ticket : (t u : Ticket) → t.slot ≡ u.slot → t.generation ≡ u.generation → t ≡ u
 same_ticket t u slot generation =
@@ -116,3 +117,51 @@ module _ {T : Type 0} where
   -- room is all that a reserve changes
   pub same_finds : (old new : Pool T) → new ≡ record old { room = new.room } → (u : Ticket) → find new u ≡ find old u
   same_finds old new same u = ap (λ p. find p u) same
+
+  -- a write, in one
+  pub written_put : (p : Pool T) (t : Ticket) (x v : T) → find p t ≡ Some x → IsPut p (with_record p t v) t (Some v)
+  written_put p t x v e = record {
+    here = written_is p t x v e;
+    others = written_others p t x v e;
+    later = λ slot. elim (cases_eq slot t.slot) [
+      | inl same ↦
+          let before : next_of p slot ≡ t.generation + 1 = ap (next_of p) same ∙ ap (λ q. q.1) (place_found p t x e) in
+          let after : next_of (with_record p t v) slot ≡ t.generation + 1 = ap (next_of (with_record p t v)) same ∙ ap (λ q. q.1) (get_or-set_same p.places t.slot (Some v, t.generation + 1) (None, p.first) (find_within p t x e)) in
+          omega (arith, before, after)
+      | inr other ↦ let same = ap (λ q. q.1) (get_or-set_other p.places t.slot slot (Some v, t.generation + 1) (None, p.first) other) in omega (arith, same)
+    ];
+  }
+
+  -- a removal, in one
+  pub removed_put : (old new : Pool T) (t : Ticket) (x : T) → Puts old new t.slot (None, t.generation + 1) → find old t ≡ Some x → IsPut old new t None
+  removed_put old new t x puts e = record {
+    here = removed_is old new t puts;
+    others = removed_others old new t x puts e;
+    later = λ slot. elim (cases_eq slot t.slot) [
+      | inl same ↦
+          let before : next_of old slot ≡ t.generation + 1 = ap (next_of old) same ∙ ap (λ q. q.1) (place_found old t x e) in
+          let after : next_of new slot ≡ t.generation + 1 = ap (next_of new) same ∙ ap (λ q. q.1) puts.changed in
+          omega (arith, before, after)
+      | inr other ↦ let same = ap (λ q. q.1) (puts.others slot other) in omega (arith, same)
+    ];
+  }
+
+  -- a ticket that is given once there is room, in one
+  pub given_put : (old roomy new : Pool T) (t : Ticket) (v : T) → HasMoreRoom old roomy → Gives roomy new t v → IsGiven old new t v
+  given_put old roomy new t v more gives =
+      let before : (slot : ℕ) → next_of roomy slot ≡ next_of old slot = λ slot. ap (λ p. next_of p slot) more in
+      let here : next_of old t.slot ≡ t.generation = sym (before t.slot) ∙ sym gives.fresh in
+      record {
+        fresh = omega (arith, here);
+        put = record {
+          here = given_is roomy new t v gives;
+          others = λ other differs. given_others roomy new t v gives other differs ∙ same_finds old roomy more other;
+          later = λ slot. elim (cases_eq slot t.slot) [
+            | inl same ↦
+                let after : next_of new slot ≡ t.generation + 1 = ap (next_of new) same ∙ ap (λ q. q.1) gives.puts.changed in
+                let old_is : next_of old slot ≡ t.generation = ap (next_of old) same ∙ here in
+                omega (arith, after, old_is)
+            | inr other ↦ let same = ap (λ q. q.1) (gives.puts.others slot other) ∙ before slot in omega (arith, same)
+          ];
+        };
+      }

@@ -3,10 +3,10 @@ use Rattle.std.proofs.Common.{◌≡◌, ◌+◌, ◌&&◌, Bool, true, false, t
 use Rattle.std.specs.Prelude.{OnSome}
 use Rattle.std.specs.Option.{IfSome}
 use Rattle.value_core.specs.declared.ticket.Ticket.{Ticket}
-use Rattle.record_pool.specs.Pool.{Pool, find, Gives, Puts}
+use Rattle.record_pool.specs.Pool.{Pool, find, Puts}
 use Rattle.piece_table.specs.declared.piece.Piece.{Piece}
-use Rattle.piece_table.specs.Table.{AreTied, IsClaimed, IsPut, IsTakenBack, has_free, is_free}
-use Rattle.piece_table.proofs.Finds.{cases_ticket, given_is, given_others, given_was, removed_is, removed_others, same_finds, same_in_some}
+use Rattle.piece_table.specs.Table.{AreTied, IsPut, IsTakenBack, has_free, is_free}
+use Rattle.piece_table.proofs.Finds.{cases_ticket, removed_put, same_in_some}
 
 some_not_none : {A P : Type 0} (o : Option A) (x : A) → o ≡ Some x → o ≡ None → P
 some_not_none o x is none = absurd (cc)
@@ -30,20 +30,9 @@ free_none p is = absurd (cc)
 
 -- the claim is taken out
 pub claim_removed : (claims claims_2 : Pool Ticket) (claim t : Ticket) (result : Option Ticket) → result ≡ find claims claim → find claims claim ≡ Some t
-    → OnSome result (Puts claims claims_2 claim.slot (None, claim.generation + 1)) → IsClaimed claims claims_2 claim None
+    → OnSome result (Puts claims claims_2 claim.slot (None, claim.generation + 1)) → IsPut claims claims_2 claim None
 claim_removed claims claims_2 claim t result value found taken =
-    let puts : Puts claims claims_2 claim.slot (None, claim.generation + 1) = subst (λ o. OnSome o (Puts claims claims_2 claim.slot (None, claim.generation + 1))) (value ∙ found) taken in
-    record { here = removed_is claims claims_2 claim puts; others = removed_others claims claims_2 claim t puts found }
-
--- a claim is given for the piece
-pub claim_given : (claims claims_1 claims_2 : Pool Ticket) (claim t : Ticket) → claims_1 ≡ record claims { room = claims_1.room } → Gives claims_1 claims_2 claim t → IsClaimed claims claims_2 claim (Some t)
-claim_given claims claims_1 claims_2 claim t rest gives = record {
-  here = given_is claims_1 claims_2 claim t gives;
-  others = λ other differs. given_others claims_1 claims_2 claim t gives other differs ∙ same_finds claims claims_1 rest other;
-}
-
-pub claim_vacant : (claims claims_1 claims_2 : Pool Ticket) (claim t : Ticket) → claims_1 ≡ record claims { room = claims_1.room } → Gives claims_1 claims_2 claim t → find claims claim ≡ None
-claim_vacant claims claims_1 claims_2 claim t rest gives = sym (same_finds claims claims_1 rest claim) ∙ given_was claims_1 claims_2 claim t gives
+    removed_put claims claims_2 claim t (subst (λ o. OnSome o (Puts claims claims_2 claim.slot (None, claim.generation + 1))) (value ∙ found) taken) found
 
 module _ (pieces pieces_2 : Pool Piece) (claims claims_2 : Pool Ticket) (tied : AreTied pieces claims) where
   -- none is there now, or a piece that is not lent, where none was, or one that was not lent either; the claims stay
@@ -61,7 +50,7 @@ module _ (pieces pieces_2 : Pool Piece) (claims claims_2 : Pool Ticket) (tied : 
   }
 
   -- the same where the claim that lent the piece before is live no more
-  pub tied_unlent : (t claim : Ticket) (x : Piece) (now : Option Piece) → find pieces t ≡ Some x → x.lent ≡ Some claim → IsPut pieces pieces_2 t now → ((v : Piece) → now ≡ Some v → v.lent ≡ None) → IsClaimed claims claims_2 claim None → AreTied pieces_2 claims_2
+  pub tied_unlent : (t claim : Ticket) (x : Piece) (now : Option Piece) → find pieces t ≡ Some x → x.lent ≡ Some claim → IsPut pieces pieces_2 t now → ((v : Piece) → now ≡ Some v → v.lent ≡ None) → IsPut claims claims_2 claim None → AreTied pieces_2 claims_2
   tied_unlent t claim x now found lent put free gone = record {
     lends = λ c piece is. elim (cases_ticket c claim) [
       | inl it ↦ some_not_none (find claims_2 c) piece is (ap (find claims_2) it ∙ gone.here)
@@ -81,7 +70,7 @@ module _ (pieces pieces_2 : Pool Piece) (claims claims_2 : Pool Ticket) (tied : 
   }
 
   -- a piece that was not lent is lent under a new claim
-  pub tied_lent : (t claim : Ticket) (x v : Piece) → find pieces t ≡ Some x → x.lent ≡ None → IsPut pieces pieces_2 t (Some v) → v.lent ≡ Some claim → find claims claim ≡ None → IsClaimed claims claims_2 claim (Some t)
+  pub tied_lent : (t claim : Ticket) (x v : Piece) → find pieces t ≡ Some x → x.lent ≡ None → IsPut pieces pieces_2 t (Some v) → v.lent ≡ Some claim → find claims claim ≡ None → IsPut claims claims_2 claim (Some t)
       → AreTied pieces_2 claims_2
   tied_lent t claim x v found free put lent vacant claimed = record {
     lends = λ c piece is. elim (cases_ticket c claim) [
@@ -105,7 +94,7 @@ module _ (pieces pieces_2 : Pool Piece) (claims claims_2 : Pool Ticket) (tied : 
   }
 
   -- the claim of a piece is taken back
-  pub tied_taken_back : (t claim : Ticket) → find claims claim ≡ Some t → IsTakenBack pieces pieces_2 t → IsClaimed claims claims_2 claim None → AreTied pieces_2 claims_2
+  pub tied_taken_back : (t claim : Ticket) → find claims claim ≡ Some t → IsTakenBack pieces pieces_2 t → IsPut claims claims_2 claim None → AreTied pieces_2 claims_2
   tied_taken_back t claim found taken gone =
       let before = tied.lends claim t found in
       let put : IsPut pieces pieces_2 t (Some (record before.0 { lent = None })) = subst (λ o. IfSome o (λ p. IsPut pieces pieces_2 t (Some (record p { lent = None })))) before.1 taken in

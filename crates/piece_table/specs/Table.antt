@@ -2,7 +2,7 @@
 use Rattle.std.specs.Prelude.{◌≡◌, ◌≢◌, ◌&&◌, ℕ, ◌≤◌, Bool, List, true, false, Option, None, Some, length, refl}
 use Rattle.std.specs.Option.{IfSome}
 use Rattle.std.specs.Coded.{Coded, code_by, coded×}
-use Rattle.record_pool.specs.Pool.{Pool, find, place_at, pool_code}
+use Rattle.record_pool.specs.Pool.{Pool, find, next_of, place_at, pool_code}
 use Rattle.slot_set.specs.SlotSet.{has_slot}
 use Rattle.value_core.specs.contracts.ticket.Ticket as ticket
 use Rattle.value_core.specs.declared.ticket.Ticket.{Ticket}
@@ -35,15 +35,20 @@ has_free (Some p) = can_lend p
 abbrev pub CanLend : Table → Ticket → Type 0
 CanLend t piece = has_free (find t.pieces piece) ≡ true
 
--- the ticket has the piece now, and each other one what it had
-pub record IsPut (old new : Pool Piece) (ticket : Ticket) (now : Option Piece) : Type 0 where
+-- the ticket has this now, each other one what it had, and no ticket that was given out will be given out again
+pub record IsPut {T : Type 0} (old new : Pool T) (ticket : Ticket) (now : Option T) : Type 0 where
   pub here : find new ticket ≡ now
   pub others : (other : Ticket) → other ≢ ticket → find new other ≡ find old other
+  pub later : (slot : ℕ) → next_of old slot ≤ next_of new slot
 
--- the claim lends that piece now, or none, and each other one what it did
-pub record IsClaimed (old new : Pool Ticket) (claim : Ticket) (now : Option Ticket) : Type 0 where
-  pub here : find new claim ≡ now
-  pub others : (other : Ticket) → other ≢ claim → find new other ≡ find old other
+-- the same of a ticket that was never given out before
+pub record IsGiven {T : Type 0} (old new : Pool T) (ticket : Ticket) (now : T) : Type 0 where
+  pub fresh : next_of old ticket.slot ≤ ticket.generation
+  pub put : IsPut old new ticket (Some now)
+
+-- there may be more room, and nothing else changes
+abbrev pub HasMoreRoom : {T : Type 0} → Pool T → Pool T → Type 0
+HasMoreRoom old new = new ≡ record old { room = new.room }
 
 -- the piece of the ticket is not lent any more, and keeps its mark
 abbrev pub IsTakenBack : Pool Piece → Pool Piece → Ticket → Type 0
@@ -51,8 +56,8 @@ IsTakenBack old new ticket = IfSome (find old ticket) (λ p. IsPut old new ticke
 
 -- the claim of a piece that was lent is live no more, and each other one is what it was
 abbrev pub IsUnlent : Pool Ticket → Pool Ticket → Option Ticket → Type 0
-IsUnlent old new None = (claim : Ticket) → find new claim ≡ find old claim
-IsUnlent old new (Some claim) = IsClaimed old new claim None
+IsUnlent old new None = new ≡ old
+IsUnlent old new (Some claim) = IsPut old new claim None
 
 -- the set has the slots of the pieces that can be lent, and room for all
 pub record AreFlags (pieces : Pool Piece) (ready : List Bool) : Type 0 where

@@ -2,7 +2,7 @@ ghost use Rattle.std.specs.Prelude.{◌≡◌, ◌↔◌, ◌<◌, None, Some, I
 ghost use Rattle.std.specs.Option.{option_copied};
 ghost use Rattle.value_core.specs.declared.ticket.Ticket.{Ticket as Numbered};
 ghost use Rattle.record_pool.specs.Pool.{find};
-ghost use Rattle.piece_table.specs.Table.{AreFlags, CanLend, IsClaimed, IsPut, IsTakenBack, IsUnlent, has_free};
+ghost use Rattle.piece_table.specs.Table.{AreFlags, CanLend, HasMoreRoom, IsGiven, IsPut, IsTakenBack, IsUnlent, has_free};
 
 use crate::Piece;
 use record_pool::Pool;
@@ -72,9 +72,8 @@ impl PieceTable {
 
     /// Adds a piece, which is not lent, under a ticket that was never given out; or finds no memory, and changes nothing.
     pub fn add(&mut self, is_ready: bool) -> Result<Ticket, AllocError>
-        ensures added { IfOk result (λ ticket. IsPut self.old.pieces self.new.pieces ticket (Some (record { is_ready = is_ready; lent = None }))) }
-        ensures vacant { IfOk result (λ ticket. find self.old.pieces ticket ≡ None) }
-        ensures same { OnErr result ((ticket : Numbered) → find self.new.pieces ticket ≡ find self.old.pieces ticket) }
+        ensures added { IfOk result (λ ticket. IsGiven self.old.pieces self.new.pieces ticket (record { is_ready = is_ready; lent = None })) }
+        ensures same { OnErr result (HasMoreRoom self.old.pieces self.new.pieces) }
         ensures claims { self.new.claims ≡ self.old.claims }
     {
         self.pieces.reserve(1)?;
@@ -131,10 +130,9 @@ impl PieceTable {
     pub fn lend(&mut self, piece: Ticket) -> Result<Ticket, AllocError>
         requires { CanLend self.old piece }
         ensures lent { IfOk result (λ claim. IsPut self.old.pieces self.new.pieces piece (Some (record { is_ready = true; lent = Some claim }))) }
-        ensures claimed { IfOk result (λ claim. IsClaimed self.old.claims self.new.claims claim (Some piece)) }
-        ensures vacant { IfOk result (λ claim. find self.old.claims claim ≡ None) }
+        ensures claimed { IfOk result (λ claim. IsGiven self.old.claims self.new.claims claim piece) }
         ensures pieces { OnErr result (self.new.pieces ≡ self.old.pieces) }
-        ensures claims { OnErr result ((claim : Numbered) → find self.new.claims claim ≡ find self.old.claims claim) }
+        ensures claims { OnErr result (HasMoreRoom self.old.claims self.new.claims) }
     {
         self.claims.reserve(1)?;
         let claim = self.claims.insert(piece);
@@ -151,7 +149,7 @@ impl PieceTable {
         ensures live { IsTrue result ↔ IsSome (find self.old.claims claim) }
         ensures same { IfNone (find self.old.claims claim) (self.new ≡ self.old) }
         ensures pieces { IfSome (find self.old.claims claim) (λ piece. IsTakenBack self.old.pieces self.new.pieces piece) }
-        ensures claims { IsSome (find self.old.claims claim) → IsClaimed self.old.claims self.new.claims claim None }
+        ensures claims { IsSome (find self.old.claims claim) → IsPut self.old.claims self.new.claims claim None }
     {
         match self.claims.remove(claim) {
             Some(piece) => {
