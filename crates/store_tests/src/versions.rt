@@ -12,7 +12,7 @@ pub(crate) fn ref_of(alloc: Global, made: u32) -> Result<Name, AllocError> {
 }
 
 /// Sets the ref to the integer, by a commit of that number.
-fn set(
+pub(crate) fn set_at(
     alloc: Global,
     store: &mut Store,
     name: &Name,
@@ -40,9 +40,9 @@ fn integer_at(store: &Store, name: &Name, number: u64) -> Option<i64> {
 /// The ref is 10 from the commit 1 on, 20 from 2 on and 30 from 3 on.
 fn three_versions(alloc: Global, name: &Name) -> Result<Store, AllocError> {
     let mut store = Store::new(alloc);
-    set(alloc, &mut store, name, 10, 1)?;
-    set(alloc, &mut store, name, 20, 2)?;
-    set(alloc, &mut store, name, 30, 3)?;
+    set_at(alloc, &mut store, name, 10, 1)?;
+    set_at(alloc, &mut store, name, 20, 2)?;
+    set_at(alloc, &mut store, name, 30, 3)?;
     Ok(store)
 }
 

@@ -1,17 +1,10 @@
-ghost use Rattle.std.specs.Prelude.{◌<◌, ℕ, OnOk};
-ghost use Rattle.ref_store.specs.Store.{IsAbove};
-
+use crate::versions::{ref_of, set_at};
 use ref_store::{Store, Writes};
 use serial_model::{Answer, Request};
 use std::alloc::{AllocError, Global};
 use std::test::Fail;
 use txn_snapshot::{Answered, TaskLog};
 use value_core::{Name, Value};
-
-/// What main made as the thing of that number.
-pub(crate) fn made_of(alloc: Global, made: u32) -> Result<Name, AllocError> {
-    Name::main(alloc)?.child(alloc, made)
-}
 
 /// Whether main made that as the thing of that number.
 pub(crate) fn is_made(name: &Name, made: u32) -> bool {
@@ -20,34 +13,16 @@ pub(crate) fn is_made(name: &Name, made: u32) -> bool {
 
 /// A task that has done nothing, at the root.
 pub(crate) fn root(alloc: Global) -> Result<TaskLog, AllocError> {
-    let name = made_of(alloc, 9)?;
+    let name = ref_of(alloc, 9)?;
     Ok(TaskLog::new(alloc, name, Writes::new(alloc), 0, None))
-}
-
-/// Sets the ref to the integer, by a commit of that number.
-fn commit(
-    alloc: Global,
-    store: &mut Store,
-    name: &Name,
-    integer: i64,
-    number: u64,
-) -> Result<(), AllocError>
-    requires { IsAbove number store.old.versions }
-    ensures { OnOk result ((later : ℕ) → number < later → IsAbove later store.new.versions) }
-{
-    let mut writes = Writes::new(alloc);
-    writes.put(name.copy(alloc)?, Value::Int(integer))?;
-    store.reserve(alloc, &writes)?;
-    store.commit(writes, number);
-    Ok(())
 }
 
 /// The things 0 and 1 that main made are refs: 0 has 10 from the commit 1 on and 30 from 3 on, and 1 has 20 from 2 on.
 pub(crate) fn two_refs(alloc: Global) -> Result<Store, AllocError> {
     let mut store = Store::new(alloc);
-    commit(alloc, &mut store, &made_of(alloc, 0)?, 10, 1)?;
-    commit(alloc, &mut store, &made_of(alloc, 1)?, 20, 2)?;
-    commit(alloc, &mut store, &made_of(alloc, 0)?, 30, 3)?;
+    set_at(alloc, &mut store, &ref_of(alloc, 0)?, 10, 1)?;
+    set_at(alloc, &mut store, &ref_of(alloc, 1)?, 20, 2)?;
+    set_at(alloc, &mut store, &ref_of(alloc, 0)?, 30, 3)?;
     Ok(store)
 }
 
@@ -66,7 +41,7 @@ pub(crate) fn integer_in(
     made: u32,
     store: &Store,
 ) -> Result<Option<i64>, AllocError> {
-    let request = Request::Deref(made_of(alloc, made)?);
+    let request = Request::Deref(ref_of(alloc, made)?);
     let answered = task.answer(alloc, &request, store, 2)?;
     Ok(integer_of(&answered))
 }
@@ -79,7 +54,7 @@ pub(crate) fn set(
     integer: i64,
     store: &Store,
 ) -> Result<bool, AllocError> {
-    let request = Request::RefSet(made_of(alloc, made)?, Value::Int(integer));
+    let request = Request::RefSet(ref_of(alloc, made)?, Value::Int(integer));
     let answered = task.answer(alloc, &request, store, 2)?;
     Ok(integer_of(&answered) == Some(integer))
 }
@@ -120,7 +95,7 @@ fn names_what_is_lacking(
     store: &Store,
 ) -> Result<bool, AllocError> {
     let is_set = set(alloc, task, 7, 5, store)?;
-    let request = Request::Deref(made_of(alloc, 7)?);
+    let request = Request::Deref(ref_of(alloc, 7)?);
     let answered = task.answer(alloc, &request, store, 2)?;
     match &answered {
         Answered::NotInSnapshot(name) => Ok(!is_set && is_made(name, 7)),
