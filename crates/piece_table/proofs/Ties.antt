@@ -5,8 +5,9 @@ use Rattle.std.specs.Option.{IfSome}
 use Rattle.value_core.specs.declared.ticket.Ticket.{Ticket}
 use Rattle.record_pool.specs.Pool.{Pool, find, Puts}
 use Rattle.piece_table.specs.declared.piece.Piece.{Piece}
-use Rattle.piece_table.specs.Table.{AreTied, IsPut, IsTakenBack, has_free, is_free}
-use Rattle.piece_table.proofs.Finds.{cases_ticket, removed_put, same_in_some}
+use Rattle.record_pool.specs.Tickets.{IsPut}
+use Rattle.piece_table.specs.Table.{AreTied, IsTakenBack, has_free, is_free}
+use Rattle.record_pool.proofs.Finds.{cases_ticket, removed_put, same_in_some}
 
 some_not_none : {A P : Type 0} (o : Option A) (x : A) → o ≡ Some x → o ≡ None → P
 some_not_none o x is none = absurd (cc)

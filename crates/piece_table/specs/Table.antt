@@ -3,6 +3,7 @@ use Rattle.std.specs.Prelude.{◌≡◌, ◌≢◌, ◌&&◌, ℕ, ◌≤◌, Bo
 use Rattle.std.specs.Option.{IfSome}
 use Rattle.std.specs.Coded.{Coded, code_by, coded×}
 use Rattle.record_pool.specs.Pool.{Pool, find, next_of, place_at, pool_code}
+use Rattle.record_pool.specs.Tickets.{IsPut}
 use Rattle.slot_set.specs.SlotSet.{has_slot}
 use Rattle.value_core.specs.contracts.ticket.Ticket as ticket
 use Rattle.value_core.specs.declared.ticket.Ticket.{Ticket}
@@ -34,21 +35,6 @@ has_free (Some p) = can_lend p
 -- the piece of the ticket is there, ready and not lent
 abbrev pub CanLend : Table → Ticket → Type 0
 CanLend t piece = has_free (find t.pieces piece) ≡ true
-
--- the ticket has this now, each other one what it had, and no ticket that was given out will be given out again
-pub record IsPut {T : Type 0} (old new : Pool T) (ticket : Ticket) (now : Option T) : Type 0 where
-  pub here : find new ticket ≡ now
-  pub others : (other : Ticket) → other ≢ ticket → find new other ≡ find old other
-  pub later : (slot : ℕ) → next_of old slot ≤ next_of new slot
-
--- the same of a ticket that was never given out before
-pub record IsGiven {T : Type 0} (old new : Pool T) (ticket : Ticket) (now : T) : Type 0 where
-  pub fresh : next_of old ticket.slot ≤ ticket.generation
-  pub put : IsPut old new ticket (Some now)
-
--- there may be more room, and nothing else changes
-abbrev pub HasMoreRoom : {T : Type 0} → Pool T → Pool T → Type 0
-HasMoreRoom old new = new ≡ record old { room = new.room }
 
 -- the piece of the ticket is not lent any more, and keeps its mark
 abbrev pub IsTakenBack : Pool Piece → Pool Piece → Ticket → Type 0

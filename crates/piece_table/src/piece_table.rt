@@ -2,7 +2,8 @@ ghost use Rattle.std.specs.Prelude.{◌≡◌, ◌↔◌, ◌<◌, None, Some, I
 ghost use Rattle.std.specs.Option.{option_copied};
 ghost use Rattle.value_core.specs.declared.ticket.Ticket.{Ticket as Numbered};
 ghost use Rattle.record_pool.specs.Pool.{find};
-ghost use Rattle.piece_table.specs.Table.{AreFlags, CanLend, HasMoreRoom, IsGiven, IsPut, IsTakenBack, IsUnlent, has_free};
+ghost use Rattle.record_pool.specs.Tickets.{HasMoreRoom, IsGiven, IsPut};
+ghost use Rattle.piece_table.specs.Table.{AreFlags, CanLend, IsTakenBack, IsUnlent, has_free};
 
 use crate::Piece;
 use record_pool::Pool;

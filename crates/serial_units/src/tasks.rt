@@ -23,11 +23,11 @@ use core_syntax::NodeId;
 use eval_step::Machine;
 use serial_model::{Answer, Halt, Request};
 use std::alloc::{AllocError, Global};
-use std::collections::{BTreeMap, BTreeSet};
+use std::collections::BTreeMap;
 use std::mem;
 use task_log::acts::{new_ref, print, send, set_ref, spawn, turn_into};
 use value_core::name_map::{find, put};
-use value_core::name_set::add;
+use value_core::name_set::{add, add_all};
 use value_core::{Code, Name, Value, Values};
 
 /// The tasks of a transaction: the one that runs, those below it, each of which waits for the child that it forked, and
@@ -573,15 +573,5 @@ fn take_in(alloc: Global, task: &mut Task, future: &Name, done: &Done) -> Result
         return Ok(());
     }
     task.log.merge(alloc, &done.task.log)?;
-    learn(alloc, &mut task.known, &done.task.known)
-}
-
-/// Adds the names to those that are known.
-fn learn(alloc: Global, known: &mut BTreeSet<Name>, more: &BTreeSet<Name>) -> Result<(), AllocError>
-    ensures { IfOk result (λ _. (g : Naming) → has_name known.new g ≡ (has_name known.old g || has_name more.now g)) }
-{
-    for name in more {
-        add(known, name.copy(alloc)?)?;
-    }
-    Ok(())
+    add_all(&mut task.known, alloc, &done.task.known)
 }

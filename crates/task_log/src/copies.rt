@@ -1,4 +1,4 @@
-ghost use Rattle.std.specs.Prelude.{◌≡◌, ◌||◌, IfOk};
+ghost use Rattle.std.specs.Prelude.{◌≡◌, IfOk};
 ghost use Rattle.value_core.specs.Named.{Name as Naming, over, Rises};
 ghost use Rattle.value_core.specs.NameSet.{has_name};
 
@@ -6,7 +6,7 @@ use serial_model::Effect;
 use std::alloc::{AllocError, Global};
 use std::collections::{BTreeMap, BTreeSet};
 use value_core::name_map::put;
-use value_core::name_set::add;
+use value_core::name_set::add_all;
 use value_core::{Name, Value};
 
 /// Equal effects, in the same order.
@@ -36,22 +36,8 @@ pub(crate) fn copy_set(alloc: Global, names: &BTreeSet<Name>) -> Result<BTreeSet
     ensures { IfOk result (λ copied. (name : Naming) → has_name copied name ≡ has_name names.now name) }
 {
     let mut copied = BTreeSet::new(alloc);
-    add_names(alloc, &mut copied, names)?;
+    add_all(&mut copied, alloc, names)?;
     Ok(copied)
-}
-
-/// Adds the names of the other set.
-fn add_names(
-    alloc: Global,
-    names: &mut BTreeSet<Name>,
-    more: &BTreeSet<Name>,
-) -> Result<(), AllocError>
-    ensures { IfOk result (λ _. (name : Naming) → has_name names.new name ≡ (has_name names.old name || has_name more.now name)) }
-{
-    for name in more {
-        add(names, name.copy(alloc)?)?;
-    }
-    Ok(())
 }
 
 /// An equal map.

@@ -20,6 +20,10 @@ IsWith name old new = (q : Name) → has_name new q ≡ (has_name old q || same_
 abbrev pub IsWithout : Name → BTreeSet Name → BTreeSet Name → Type 0
 IsWithout name old new = (q : Name) → has_name new q ≡ (has_name old q && not (same_name q name))
 
+-- the set with the names of another one
+abbrev pub HasBoth : BTreeSet Name → BTreeSet Name → BTreeSet Name → Type 0
+HasBoth old more new = (q : Name) → has_name new q ≡ (has_name old q || has_name more q)
+
 -- the first name of the set, where it has one
 abbrev pub IsFirst : BTreeSet Name → Option Name → Type 0
 IsFirst set None = (q : Name) → has_name set q ≡ false

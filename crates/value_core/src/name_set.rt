@@ -1,6 +1,6 @@
 ghost use Rattle.std.specs.Prelude.{◌≡◌, IfOk, OnErr, OnOk};
 ghost use Rattle.std.specs.Option.{option_copied};
-ghost use Rattle.value_core.specs.NameSet.{IsFirst, IsWith, IsWithout};
+ghost use Rattle.value_core.specs.NameSet.{HasBoth, IsFirst, IsWith, IsWithout};
 
 use crate::Name;
 use std::alloc::{AllocError, Global};
@@ -27,6 +27,20 @@ pub fn mark(names: &mut BTreeSet<Name>, alloc: Global, name: &Name) -> Result<Na
     let marked = name.copy(alloc)?;
     add(names, name.copy(alloc)?)?;
     Ok(marked)
+}
+
+/// Adds copies of the other set's names. For want of memory some of them may be there.
+pub fn add_all(
+    names: &mut BTreeSet<Name>,
+    alloc: Global,
+    more: &BTreeSet<Name>,
+) -> Result<(), AllocError>
+    ensures { IfOk result (λ _. HasBoth names.old more.now names.new) }
+{
+    for name in more {
+        add(names, name.copy(alloc)?)?;
+    }
+    Ok(())
 }
 
 /// Takes the name out. It takes no memory.

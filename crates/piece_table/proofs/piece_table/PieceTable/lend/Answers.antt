@@ -1,6 +1,6 @@
 use Rattle.std.proofs.Common.{◌≡◌, ◌∙◌, refl, sym, ap}
 use Rattle.piece_table.specs.Table.{has_free}
-use Rattle.piece_table.proofs.Finds.{given_put, given_was, same_finds}
+use Rattle.record_pool.proofs.Finds.{given_put, given_was, same_finds}
 use Rattle.piece_table.proofs.Ties.{not_lent, tied_lent}
 use Rattle.piece_table.proofs.piece_table.PieceTable.lend.Goals as goal
 

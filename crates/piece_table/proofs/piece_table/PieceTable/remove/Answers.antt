@@ -1,6 +1,6 @@
 use Rattle.std.proofs.Common.{◌≡◌, ◌∙◌, refl, sym, ap}
 use Rattle.piece_table.specs.declared.piece.Piece.{Piece}
-use Rattle.piece_table.proofs.Finds.{same_in_some}
+use Rattle.record_pool.proofs.Finds.{same_in_some}
 use Rattle.piece_table.proofs.Ties.{claim_removed, free_none, tied_put, tied_unlent}
 use Rattle.piece_table.proofs.piece_table.PieceTable.remove.Goals as goal
 

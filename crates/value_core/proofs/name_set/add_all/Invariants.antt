@@ -5,7 +5,7 @@ use Rattle.std.specs.List.{list_any}
 use Rattle.value_core.specs.Name.{after_cmp}
 use Rattle.value_core.specs.Named.{Name}
 use Rattle.value_core.specs.NameSet.{has_name}
-use Rattle.serial_units.proofs.tasks.learn.Given as goal
+use Rattle.value_core.proofs.name_set.add_all.Given as goal
 
 abbrev pub invariant-loop-name : goal.invariant-loop-name
-invariant-loop-name l = (g : Name) → (has_name l.known g || list_any (is_at (after_cmp g)) l.name-iterator) ≡ (has_name l.fn.known g || has_name l.more g)
+invariant-loop-name l = (name : Name) → (has_name l.names name || list_any (is_at (after_cmp name)) l.name-iterator) ≡ (has_name l.fn.names name || has_name l.more name)

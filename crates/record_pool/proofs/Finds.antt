@@ -5,7 +5,7 @@ use Rattle.std.proofs.lemmas.Bool.Decides.{eqb_tells}
 use Rattle.std.proofs.lemmas.List.{get_or-set_same, get_or-set_other, get_or_past}
 use Rattle.value_core.specs.declared.ticket.Ticket.{Ticket}
 use Rattle.record_pool.specs.Pool.{Pool, place_at, next_of, read, find, with_record, Puts, Gives}
-use Rattle.piece_table.specs.Table.{HasMoreRoom, IsGiven, IsPut}
+use Rattle.record_pool.specs.Tickets.{HasMoreRoom, IsGiven, IsPut}
 
 pub same_ticket : (t u : Ticket) → t.slot ≡ u.slot → t.generation ≡ u.generation → t ≡ u
 same_ticket t u slot generation =
