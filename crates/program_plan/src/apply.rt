@@ -23,15 +23,15 @@ pub(crate) fn applied(
         Head::Op(op) => Ok(Node::Op(op, ids)),
         Head::Println => Ok(Node::Println(ids)),
         Head::Call(number) => {
-            let hidden = frame.hidden_places(alloc, frame.function(number)?)?;
+            let hidden = frame.function_places(alloc, number)?;
             Ok(Node::Call(number, hidden, ids))
         }
         Head::Spawn(number) => {
-            let hidden = frame.hidden_places(alloc, frame.behaviour(number)?)?;
+            let hidden = frame.behaviour_places(alloc, number)?;
             Ok(Node::Spawn(number, hidden, ids))
         }
         Head::Become(number) => {
-            let hidden = frame.hidden_places(alloc, frame.behaviour(number)?)?;
+            let hidden = frame.behaviour_places(alloc, number)?;
             Ok(Node::Become(number, hidden, ids))
         }
         Head::Send => sent(alloc, ids.items()),

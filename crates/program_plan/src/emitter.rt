@@ -2,7 +2,9 @@ ghost use Rattle.std.specs.Prelude.{◌≡◌, ◌≤◌, [], ◌++◌, length, 
 ghost use Rattle.core_syntax.specs.Table.{finished};
 ghost use Rattle.core_syntax.specs.Limit.{counts, node_limit};
 ghost use Rattle.core_syntax.specs.WellFormed.{IsBelow, IsTurnAt, ChildrenBelow, FunctionsBelow, BehavioursBelow};
+ghost use Rattle.core_syntax.specs.declared.node.Node.TheVariants.{Kw, Local, Str};
 ghost use Rattle.program_plan.specs.Emitted.{local as local_of};
+ghost use Rattle.program_plan.specs.Frame.{global_place};
 ghost use Rattle.program_plan.specs.Made.{Makes, node as node_of};
 
 use crate::frame::Frame;
@@ -11,7 +13,7 @@ use core_syntax::{
 };
 use std::alloc::{AllocError, Global};
 use std::marker::Model;
-use value_core::Place;
+use value_core::{Place, Text};
 
 /// A table of nodes that grows, and the functions of the loops in it.
 #[derive(Drop)]
@@ -72,6 +74,36 @@ impl Emitter {
     {
         let place = frame.local_place(level)?;
         self.push(at, Node::Local(place))
+    }
+
+    /// Appends the global with that number.
+    pub fn push_global(&mut self, at: Place, frame: &Frame, number: u32) -> Result<NodeId, BuildNo>
+        ensures makes { Makes (node_of at (Local (global_place frame.now number))) self.old result self.new }
+        ensures below { IfOk result (λ id. IsBelow (length self.new.rows) id) }
+        ensures kept { length self.old.rows ≤ length self.new.rows }
+    {
+        let place = frame.global_place(number)?;
+        self.push(at, Node::Local(place))
+    }
+
+    /// Appends a copy of the string.
+    pub fn push_str(&mut self, alloc: Global, at: Place, text: &Text) -> Result<NodeId, BuildNo>
+        ensures makes { Makes (node_of at (Str text.now)) self.old result self.new }
+        ensures below { IfOk result (λ id. IsBelow (length self.new.rows) id) }
+        ensures kept { length self.old.rows ≤ length self.new.rows }
+    {
+        let copied = text.copy(alloc)?;
+        self.push(at, Node::Str(copied))
+    }
+
+    /// Appends a copy of the keyword.
+    pub fn push_kw(&mut self, alloc: Global, at: Place, name: &Text) -> Result<NodeId, BuildNo>
+        ensures makes { Makes (node_of at (Kw name.now)) self.old result self.new }
+        ensures below { IfOk result (λ id. IsBelow (length self.new.rows) id) }
+        ensures kept { length self.old.rows ≤ length self.new.rows }
+    {
+        let copied = name.copy(alloc)?;
+        self.push(at, Node::Kw(copied))
     }
 
     /// How many loops there are.

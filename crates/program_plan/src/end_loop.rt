@@ -27,7 +27,7 @@ impl Emitter {
         ensures kept { length self.old.rows ≤ length self.new.rows }
     {
         let arguments = self.push_locals(alloc, frame, at, looping.arguments.items())?;
-        let hidden = frame.hidden_places(alloc, frame.function(looping.number)?)?;
+        let hidden = frame.function_places(alloc, looping.number)?;
         let call = self.push(at, Node::Call(looping.number, hidden, arguments))?;
         self.push(at, Node::Let(values, call))
     }

@@ -86,6 +86,20 @@ impl<'a> Frame<'a> {
         hidden_at(&layout.behaviours, number)
     }
 
+    /// Where the hidden arguments of the function with that number lie.
+    pub fn function_places(&self, alloc: Global, number: u32) -> Result<Locals, AllocError>
+        ensures { IfOk result (λ places. places ≡ hidden_places self.now (hidden_at self.now.layout.functions number)) }
+    {
+        self.hidden_places(alloc, self.function(number)?)
+    }
+
+    /// Where the hidden arguments of the behaviour with that number lie.
+    pub fn behaviour_places(&self, alloc: Global, number: u32) -> Result<Locals, AllocError>
+        ensures { IfOk result (λ places. places ≡ hidden_places self.now (hidden_at self.now.layout.behaviours number)) }
+    {
+        self.hidden_places(alloc, self.behaviour(number)?)
+    }
+
     /// The frame of the body of the loop with that function, whose own locals begin at level `base`.
     pub fn of_loop(&self, number: u32, base: u32) -> Result<Self, AllocError>
         ensures { IfOk result (λ frame. frame ≡ loop_frame self.now number base) }
