@@ -14,7 +14,6 @@ use core_syntax::{NodeId, Program};
 use serial_model::{Answer, Halt};
 use std::alloc::{AllocError, Global};
 use std::marker::Model;
-use value_core::lists::copy_list;
 use value_core::{Seq, Values};
 
 /// An evaluation that goes on from request to request.
@@ -125,7 +124,7 @@ impl Machine {
     {
         Ok(Machine {
             body: self.body,
-            values: copy_list(alloc, self.values.items())?,
+            values: self.values.copy()?,
             inside: self.inside,
             fuel: self.fuel,
             answers: copy_answers(alloc, self.answers.items())?,

@@ -1,7 +1,7 @@
 use crate::maps::{a_map, text};
 use std::alloc::{AllocError, Global};
 use std::test::Fail;
-use value_core::{Dict, Key, KeyNo, Op, Seq, Value};
+use value_core::{Dict, Key, KeyNo, Op, Value, Values};
 use value_ops::apply;
 
 // Whether the value is the key.
@@ -38,7 +38,7 @@ fn is_refused(alloc: Global, value: &Value) -> bool {
 fn other_values_are_no_keys(rt: HostRuntime) {
     let alloc = rt.alloc();
     assert!(rt; is_refused(alloc, &Value::Nil));
-    assert!(rt; is_refused(alloc, &Value::Vector(Seq::new(alloc))));
+    assert!(rt; is_refused(alloc, &Value::Vector(Values::new(alloc))));
     assert!(rt; is_refused(alloc, &Value::Map(Dict::new(alloc))));
 }
 

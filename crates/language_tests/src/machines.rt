@@ -6,7 +6,7 @@ use eval_step::Machine;
 use serial_model::{Answer, Halt, Request};
 use std::alloc::{AllocError, Global};
 use std::test::Fail;
-use value_core::{Op, Place, Seq, Text, Value};
+use value_core::{Op, Place, Seq, Text, Value, Values};
 
 fn one(alloc: Global, id: NodeId) -> Result<NodeIds, AllocError>
     ensures { IfOk result (λ ids. ids ≡ id ∷ []) }
@@ -53,7 +53,7 @@ pub(crate) fn machine_of(
     ensures { IfOk result (IsOf program.now) }
 {
     let index = index.min(program.main().index);
-    Machine::start(alloc, NodeId { index }, Seq::new(alloc), false, fuel)
+    Machine::start(alloc, NodeId { index }, Values::new(alloc), false, fuel)
 }
 
 // The number that the node with that index comes to.

@@ -1,6 +1,5 @@
 use std::alloc::{AllocError, Global};
 use std::test::Fail;
-use value_core::lists::add;
 use value_core::{Dict, Key, Name, Op, Seq, Value, Values};
 use value_ops::{OpFault, apply, op_named, takes};
 use value_print::readable;
@@ -27,10 +26,10 @@ fn int_of(digits: &[u8]) -> i64 {
 }
 
 fn vector_of(alloc: Global, numbers: &[u8]) -> Result<Value, AllocError> {
-    let mut items = Seq::new(alloc);
+    let mut items = Values::new(alloc);
     if !numbers.is_empty() {
         for digits in numbers.split(|byte| *byte == b',') {
-            add(&mut items, Value::Int(int_of(digits)))?;
+            items.add(Value::Int(int_of(digits)))?;
         }
     }
     Ok(Value::Vector(items))
@@ -67,10 +66,10 @@ fn value_of(alloc: Global, word: &[u8]) -> Result<Value, AllocError> {
 }
 
 fn values_of(alloc: Global, words: &[u8]) -> Result<Values, AllocError> {
-    let mut values = Seq::new(alloc);
+    let mut values = Values::new(alloc);
     if !words.is_empty() {
         for word in words.split(|byte| *byte == b' ') {
-            add(&mut values, value_of(alloc, word)?)?;
+            values.add(value_of(alloc, word)?)?;
         }
     }
     Ok(values)

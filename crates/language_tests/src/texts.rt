@@ -1,7 +1,6 @@
 use std::alloc::{AllocError, Global};
 use std::test::Fail;
-use value_core::lists::add;
-use value_core::{Dict, Key, Name, Seq, Value};
+use value_core::{Dict, Key, Name, Seq, Value, Values};
 use value_print::{print_line, readable, str_of};
 
 fn string(alloc: Global, bytes: &[u8]) -> Result<Value, AllocError> {
@@ -10,10 +9,10 @@ fn string(alloc: Global, bytes: &[u8]) -> Result<Value, AllocError> {
 
 // The vector [1 "b" nil].
 fn a_vector(alloc: Global) -> Result<Value, AllocError> {
-    let mut items = Seq::new(alloc);
-    add(&mut items, Value::Int(1))?;
-    add(&mut items, string(alloc, b"b")?)?;
-    add(&mut items, Value::Nil)?;
+    let mut items = Values::new(alloc);
+    items.add(Value::Int(1))?;
+    items.add(string(alloc, b"b")?)?;
+    items.add(Value::Nil)?;
     Ok(Value::Vector(items))
 }
 
@@ -25,7 +24,7 @@ fn a_map(alloc: Global) -> Result<Value, AllocError> {
         string(alloc, b"t")?,
     )?;
     pairs.put(Key::Kw(Seq::from_bytes(alloc, b"k")?), Value::Bool(true))?;
-    pairs.put(Key::Int(2), Value::Vector(Seq::new(alloc)))?;
+    pairs.put(Key::Int(2), Value::Vector(Values::new(alloc)))?;
     pairs.put(Key::Bool(false), Value::Int(7))?;
     Ok(Value::Map(pairs))
 }

@@ -2,16 +2,16 @@ use crate::maps::{a_map, text};
 use crate::names::name_of;
 use std::alloc::{AllocError, Global};
 use std::test::Fail;
-use value_core::lists::add;
-use value_core::{Reserved, Seq, Value};
+use value_core::lists::copy_list;
+use value_core::{Reserved, Text, Value, Values};
 
 // The vector of the map and a future.
 fn a_vector(alloc: Global) -> Result<Value, AllocError> {
     let future = Value::Future(name_of(alloc, &[4])?);
-    let mut items = Seq::new(alloc);
+    let mut items = Values::new(alloc);
     items.reserve(2)?;
-    add(&mut items, Value::Map(a_map(alloc)?))?;
-    add(&mut items, future)?;
+    items.add(Value::Map(a_map(alloc)?))?;
+    items.add(future)?;
     Ok(Value::Vector(items))
 }
 
@@ -31,6 +31,27 @@ fn is_equal_to_its_copy(alloc: Global) -> Result<bool, AllocError> {
     Ok(vector.equal(&copy) && !vector.equal(&Value::Map(a_map(alloc)?)))
 }
 
+// The vector of these integers.
+fn integers(alloc: Global, numbers: &[i64]) -> Result<Value, AllocError> {
+    let mut items = Values::new(alloc);
+    for number in numbers {
+        items.add(Value::Int(*number))?;
+    }
+    Ok(Value::Vector(items))
+}
+
+// What is written into a list and pushed onto it is not seen in the copy that shares its items.
+fn a_copy_stays(alloc: Global) -> Result<bool, AllocError> {
+    let mut items = copy_list(alloc, &[Value::Int(1), Value::Int(2)])?;
+    let kept = items.copy()?;
+    items.set(0, Value::Int(3))?;
+    items.add(Value::Int(4))?;
+    Ok(
+        Value::Vector(kept).equal(&integers(alloc, &[1, 2])?)
+            && Value::Vector(items).equal(&integers(alloc, &[3, 2, 4])?),
+    )
+}
+
 fn kinds_of_names_differ(alloc: Global) -> Result<bool, AllocError> {
     let cell = Value::Ref(name_of(alloc, &[])?);
     let actor = Value::Actor(name_of(alloc, &[])?);
@@ -43,7 +64,13 @@ fn values_are_compared_copied_and_measured(rt: HostRuntime) -> Result<(), Fail> 
     assert!(rt; measures_a_vector(rt.alloc())?);
     assert!(rt; is_equal_to_its_copy(rt.alloc())?);
     assert!(rt; kinds_of_names_differ(rt.alloc())?);
-    assert_eq!(rt; Value::Vector(Seq::new(rt.alloc())).depth(), 1);
+    assert_eq!(rt; Value::Vector(Values::new(rt.alloc())).depth(), 1);
+    Ok(())
+}
+
+#[test]
+fn a_copy_of_a_list_stays(rt: HostRuntime) -> Result<(), Fail> {
+    assert!(rt; a_copy_stays(rt.alloc())?);
     Ok(())
 }
 

@@ -1,7 +1,7 @@
 use actor_mailbox::{Mailbox, Message};
 use std::alloc::{AllocError, Global};
 use std::test::Fail;
-use value_core::{Name, Seq, Value};
+use value_core::{Name, Value, Values};
 
 /// A message of that sender, with this number, that depends on that name.
 fn message(
@@ -10,8 +10,8 @@ fn message(
     number: i64,
     depends: Option<u32>,
 ) -> Result<Message, AllocError> {
-    let mut args = Seq::new(alloc);
-    args.push(Value::Int(number)).map_err(|_| AllocError)?;
+    let mut args = Values::new(alloc);
+    args.add(Value::Int(number))?;
     Ok(Message {
         sender: name(alloc, sender)?,
         args,

@@ -19,7 +19,6 @@ use serial_model::{ActorState, Halt, Limits, Request};
 use serial_units::{Around, Becoming, Done, TaskEnd, transact};
 use std::alloc::{AllocError, Global};
 use std::collections::BTreeMap;
-use value_core::lists::copy_list;
 use value_core::{Code, Name, Place, Value, Values};
 
 impl Now {
@@ -164,28 +163,28 @@ impl Now {
     {
         match halt {
             Halt::Ask(request, at) => self.serve(alloc, program, limits, name, at, request),
-            Halt::Value(value) => done(self.end_unit(alloc, name, value)),
+            Halt::Value(value) => done(self.end_unit(name, value)),
             Halt::Fault(code, at) => done(self.fail(alloc, name, code, at)),
             Halt::Spent => done(self.spend(alloc, name)),
         }
     }
 
     /// At its value a unit is finished, and the actor of a turn is idle.
-    fn end_unit(&mut self, alloc: Global, name: &Name, value: Value) -> Result<(), AllocError>
+    fn end_unit(&mut self, name: &Name, value: Value) -> Result<(), AllocError>
         ensures { OnOk result ((setup : Setup) → Does setup name.now self.old self.new (λ s unit. row.finishes s name.now unit value)) }
     {
         self.units.finish(name, value);
-        self.release(alloc, name)
+        self.release(name)
     }
 
     /// The actor of the unit's turn is idle, and becomes what is said.
-    fn release(&mut self, alloc: Global, name: &Name) -> Result<(), AllocError>
+    fn release(&mut self, name: &Name) -> Result<(), AllocError>
         ensures units { self.new.units ≡ self.old.units }
         ensures released { OnOk result ((setup : Setup) → Does setup name.now self.old self.new (λ s unit. row.released unit.actor s unit.becomes)) }
     {
         match self.units.get(name) {
             Some(unit) => match &unit.actor {
-                Some(actor) => free(&mut self.actors, alloc, actor, &unit.becomes),
+                Some(actor) => free(&mut self.actors, actor, &unit.becomes),
                 None => Ok(()),
             },
             None => Ok(()),
@@ -196,25 +195,24 @@ impl Now {
 /// The actor of that name is idle, and becomes what is said.
 fn free(
     actors: &mut BTreeMap<Name, ActorState>,
-    alloc: Global,
     name: &Name,
     becomes: &Option<Becoming>,
 ) -> Result<(), AllocError>
     ensures { OnOk result (IsFreed name.now actors.old.entries actors.new.entries (named name.now actors.old.entries) (option_map becoming_of becomes.now)) }
 {
-    let becomes = copy_becoming(alloc, becomes)?;
+    let becomes = copy_becoming(becomes)?;
     if let Some(actor) = actors.get_mut(name) {
         rest(actor, becomes);
     }
     Ok(())
 }
 
-fn copy_becoming(alloc: Global, becomes: &Option<Becoming>) -> Result<Option<Becoming>, AllocError>
+fn copy_becoming(becomes: &Option<Becoming>) -> Result<Option<Becoming>, AllocError>
     ensures { IfOk result (λ copied. copied ≡ becomes.now) }
 {
     match becomes {
         Some(next) => {
-            let state = copy_list(alloc, next.state.items())?;
+            let state = next.state.copy()?;
             Ok(Some(Becoming {
                 behaviour: next.behaviour,
                 state,

@@ -12,7 +12,6 @@ use core_syntax::{NodeId, Program};
 use serial_model::{ActorState, End, Limits};
 use std::alloc::{AllocError, Global};
 use std::collections::BTreeMap;
-use value_core::lists::{add, copy_list};
 use value_core::name_map::find;
 use value_core::{Name, Values};
 
@@ -38,9 +37,9 @@ fn turn(actor: &mut ActorState) -> Result<(), AllocError>
 fn joined(alloc: Global, state: &Values, message: &Values) -> Result<Values, AllocError>
     ensures { IfOk result (λ values. values ≡ state.now ++ message.now) }
 {
-    let mut values = copy_list(alloc, state.items())?;
+    let mut values = state.copy()?;
     for value in message.items() {
-        add(&mut values, value.copy(alloc)?)?;
+        values.add(value.copy(alloc)?)?;
     }
     Ok(values)
 }
@@ -99,7 +98,7 @@ impl Now {
         match find(&self.actors, actor) {
             Some(found) => {
                 let name = actor.child(alloc, found.turns)?;
-                let state = copy_list(alloc, found.state.items())?;
+                let state = found.state.copy()?;
                 Ok((name, program.behaviour(found.behaviour).body, state))
             }
             None => Err(AllocError),

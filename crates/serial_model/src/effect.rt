@@ -1,7 +1,6 @@
 ghost use Rattle.std.specs.Prelude.{◌≡◌, IfOk};
 
 use std::alloc::{AllocError, Global};
-use value_core::lists::copy_list;
 use value_core::{Name, Text, Values};
 
 /// What a task of a transaction did, with the task and the number of the effect there, from 0. By these two an effect is
@@ -47,15 +46,15 @@ impl What {
         match self {
             What::Bytes(text) => Ok(What::Bytes(Text::from_bytes(alloc, text.items())?)),
             What::Send(actor, message) => {
-                let message = copy_list(alloc, message.items())?;
+                let message = message.copy()?;
                 Ok(What::Send(actor.copy(alloc)?, message))
             }
             What::Spawn(actor, behaviour, state) => {
-                let state = copy_list(alloc, state.items())?;
+                let state = state.copy()?;
                 Ok(What::Spawn(actor.copy(alloc)?, *behaviour, state))
             }
             What::Become(behaviour, state) => {
-                let state = copy_list(alloc, state.items())?;
+                let state = state.copy()?;
                 Ok(What::Become(*behaviour, state))
             }
         }

@@ -2,7 +2,6 @@ ghost use Rattle.std.specs.Prelude.{◌≡◌, IfOk};
 
 use core_syntax::NodeId;
 use std::alloc::{AllocError, Global};
-use value_core::lists::copy_list;
 use value_core::{Name, Text, Value, Values};
 
 /// What an evaluation asks for.
@@ -45,27 +44,15 @@ impl Request {
                 cell.copy(alloc)?,
                 content.copy(alloc)?,
             )),
-            Request::Fork(body, frame) => Ok(Request::Fork(
-                *body,
-                copy_list(alloc, frame.items())?,
-            )),
+            Request::Fork(body, frame) => Ok(Request::Fork(*body, frame.copy()?)),
             Request::Join(future) => Ok(Request::Join(future.copy(alloc)?)),
-            Request::Dosync(body, frame) => Ok(Request::Dosync(
-                *body,
-                copy_list(alloc, frame.items())?,
-            )),
-            Request::Spawn(number, state) => Ok(Request::Spawn(
-                *number,
-                copy_list(alloc, state.items())?,
-            )),
+            Request::Dosync(body, frame) => Ok(Request::Dosync(*body, frame.copy()?)),
+            Request::Spawn(number, state) => Ok(Request::Spawn(*number, state.copy()?)),
             Request::Send(actor, message) => {
-                let message = copy_list(alloc, message.items())?;
+                let message = message.copy()?;
                 Ok(Request::Send(actor.copy(alloc)?, message))
             }
-            Request::Become(number, state) => Ok(Request::Become(
-                *number,
-                copy_list(alloc, state.items())?,
-            )),
+            Request::Become(number, state) => Ok(Request::Become(*number, state.copy()?)),
             Request::SelfActor => Ok(Request::SelfActor),
         }
     }

@@ -6,7 +6,7 @@ use serial_model::{Answer, Entry, Request};
 use std::alloc::{AllocError, Global};
 use std::test::Fail;
 use tentative_turn::{Ahead, Held, HeldEffect};
-use value_core::{Name, Seq, Text, Value};
+use value_core::{Name, Text, Value, Values};
 
 fn name(alloc: Global, text: &str) -> Result<Name, AllocError> {
     Name::read(alloc, text.as_bytes()).map_err(|_| AllocError)
@@ -27,11 +27,11 @@ fn request(alloc: Global, kind: char) -> Result<Request, AllocError>
         'n' => Ok(Request::NewRef(Value::Nil)),
         'd' => Ok(Request::Deref(name(alloc, "0.2")?)),
         'r' => Ok(Request::RefSet(name(alloc, "0.2")?, Value::Nil)),
-        'f' => Ok(Request::Fork(NodeId { index: 0 }, Seq::new(alloc))),
+        'f' => Ok(Request::Fork(NodeId { index: 0 }, Values::new(alloc))),
         'j' => Ok(Request::Join(name(alloc, "0.3")?)),
-        'a' => Ok(Request::Spawn(0, Seq::new(alloc))),
-        's' => Ok(Request::Send(name(alloc, "0.1")?, Seq::new(alloc))),
-        'b' => Ok(Request::Become(0, Seq::new(alloc))),
+        'a' => Ok(Request::Spawn(0, Values::new(alloc))),
+        's' => Ok(Request::Send(name(alloc, "0.1")?, Values::new(alloc))),
+        'b' => Ok(Request::Become(0, Values::new(alloc))),
         _ => Ok(Request::SelfActor),
     }
 }

@@ -15,7 +15,6 @@ use std::collections::BTreeMap;
 use std::marker::Model;
 use task_log::TaskLog as OwnLog;
 use task_log::acts::{new_ref, print, send, set_ref, spawn, turn_into};
-use value_core::lists::copy_list;
 use value_core::{Code, Name, Value};
 
 /// What a task of a transaction has done so far on a snapshot of the refs, and which refs it has read there.
@@ -228,15 +227,13 @@ fn act(
     match request {
         Request::Print(text) => print(alloc, log, text.copy(alloc)?),
         Request::NewRef(content) => new_ref(alloc, log, content.copy(alloc)?),
-        Request::Spawn(behaviour, state) => {
-            spawn(alloc, log, *behaviour, copy_list(alloc, state.items())?)
-        }
+        Request::Spawn(behaviour, state) => spawn(alloc, log, *behaviour, state.copy()?),
         Request::Send(to, message) => {
-            let message = copy_list(alloc, message.items())?;
+            let message = message.copy()?;
             send(alloc, log, to.copy(alloc)?, message)
         }
         Request::Become(behaviour, state) => match actor {
-            Some(_) => turn_into(alloc, log, *behaviour, copy_list(alloc, state.items())?),
+            Some(_) => turn_into(alloc, log, *behaviour, state.copy()?),
             None => Ok(Answer::Fault(Code::NoTurn)),
         },
         Request::SelfActor => match actor {

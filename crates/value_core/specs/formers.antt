@@ -1,2 +1,3 @@
 pub mod dict
 pub mod seq
+pub mod shared

@@ -4,6 +4,7 @@
 #![tactic(auto)]
 
 mod code;
+mod copied;
 mod dict;
 mod key;
 pub mod lists;
@@ -18,12 +19,14 @@ mod place;
 mod places;
 mod reserved;
 mod seq;
+mod shared;
 mod style;
 pub mod text_writing;
 mod ticket;
 mod value;
 
 pub use code::Code;
+pub use copied::Copied;
 pub use dict::{Dict, Pairs};
 pub use key::Key;
 pub use name::{Name, NameNo};
@@ -34,6 +37,7 @@ pub use place::Place;
 pub use places::Places;
 pub use reserved::Reserved;
 pub use seq::{Seq, Text};
+pub use shared::Shared;
 pub use style::Style;
 pub use ticket::Ticket;
 pub use value::{KeyNo, Value, Values};

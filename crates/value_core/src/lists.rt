@@ -1,6 +1,6 @@
 ghost use Rattle.std.specs.Prelude.{◌≡◌, [], ◌∷◌, ◌++◌, IfOk, OnErr, OnOk};
 
-use crate::{Seq, Value, Values};
+use crate::{Seq, Shared, Value, Values};
 use std::alloc::{AllocError, Global};
 
 /// Appends the item. For want of memory the list stays, and the item is dropped.
@@ -15,10 +15,5 @@ pub fn add<T: Drop>(list: &mut Seq<T>, item: T) -> Result<(), AllocError>
 pub fn copy_list(alloc: Global, values: &[Value]) -> Result<Values, AllocError>
     ensures { IfOk result (λ copied. copied ≡ values.now) }
 {
-    let mut copied = Seq::new(alloc);
-    copied.reserve(values.len())?;
-    for value in values {
-        add(&mut copied, value.copy(alloc)?)?;
-    }
-    Ok(copied)
+    Shared::from_slice(alloc, values)
 }

@@ -5,16 +5,17 @@ ghost use Rattle.value_core.specs.Name.{after_cmp, name_text, IsTextOf};
 use crate::lists::add;
 use crate::{Seq, Text};
 use itoa::Buffer;
+use smallvec::SmallVec;
 use std::alloc::{AllocError, Global};
 use std::cmp::Ordering;
 use std::marker::Model;
 use thiserror::Error;
 
 /// The name of a unit, or of a thing that a unit or a task made: one or more numbers. The first thing that `p` makes is
-/// `p` with a 0 more, and main is 0 alone.
-#[derive(Debug, Drop)]
+/// `p` with a 0 more, and main is 0 alone. Up to four numbers take no memory of their own.
+#[derive(Debug)]
 pub struct Name {
-    parts: Vec<u32>,
+    parts: SmallVec<u32, 4>,
 }
 
 impl Model for Name {
@@ -27,13 +28,19 @@ impl Model for Name {
     ghost invariant = { λ n. 0 < length n.parts.items };
 }
 
+impl Drop for Name {
+    fn drop(self) {
+        let Name { parts: _parts } = self;
+    }
+}
+
 impl Name {
     /// The name of main.
     pub fn main(alloc: Global) -> Result<Self, AllocError>
         ensures { IfOk result (λ name. name ≡ 0 ∷ []) }
     {
         Ok(Name {
-            parts: vec![in alloc; 0]?,
+            parts: SmallVec::from_slice(alloc, &[0])?,
         })
     }
 
@@ -50,7 +57,7 @@ impl Name {
         ensures { IfOk result (λ name. name ≡ self.now) }
     {
         Ok(Name {
-            parts: Vec::from_slice(alloc, self.parts.as_slice())?,
+            parts: SmallVec::from_slice(alloc, self.parts.as_slice())?,
         })
     }
 
@@ -58,8 +65,7 @@ impl Name {
     pub fn child(&self, alloc: Global, number: u32) -> Result<Self, AllocError>
         ensures { IfOk result (λ name. name ≡ self.now ++ number ∷ []) }
     {
-        let mut parts = Vec::with_capacity(alloc, self.parts.len().saturating_add(1))?;
-        parts.extend_from_slice(self.parts.as_slice())?;
+        let mut parts = SmallVec::from_slice(alloc, self.parts.as_slice())?;
         parts.push(number)?;
         Ok(Name { parts })
     }
@@ -85,7 +91,7 @@ impl Name {
         ensures name { IfOk result (λ name. IsTextOf name bytes.now) }
         ensures bad_name { result ≡ Err NameNo.BadName → (numbers : List ℕ) → ¬ IsTextOf numbers bytes.now }
     {
-        let mut parts = Vec::new(alloc);
+        let mut parts = SmallVec::new(alloc);
         let mut rest = bytes;
         while let Some(dot) = first_dot(rest) {
             push_piece(&mut parts, &rest[..dot])?;
@@ -142,7 +148,7 @@ fn after_dot(bytes: &[u8], dot: usize) -> &[u8]
 }
 
 // Appends the number that the piece writes.
-fn push_piece(parts: &mut Vec<u32>, piece: &[u8]) -> Result<(), NameNo>
+fn push_piece(parts: &mut SmallVec<u32, 4>, piece: &[u8]) -> Result<(), NameNo>
     ensures ok { OnOk result (WritesNumber parts.old.items piece.now parts.new.items) }
     ensures bad { result ≡ Err NameNo.BadName → (n : ℕ) → n < 2 ^ 32 → decimal n ≢ piece.now }
 {

@@ -4,8 +4,7 @@ ghost use Rattle.value_core.specs.Depth.{depth_of, deepest};
 ghost use Rattle.value_core.specs.Futures.{holds_future};
 ghost use Rattle.value_core.specs.ToKey.{key_of};
 
-use crate::lists::add;
-use crate::{Dict, Key, Name, Pair, Pairs, Seq, Text};
+use crate::{Dict, Key, Name, Pairs, Seq, Shared, Text};
 use std::alloc::{AllocError, Global};
 use thiserror::Error;
 
@@ -24,8 +23,8 @@ pub enum Value {
     Future(Name),
 }
 
-/// A list of values.
-pub type Values = Seq<Value>;
+/// A list of values, whose copies share them.
+pub type Values = Shared<Value>;
 
 /// Why a value is no key: it is of no kind of keys, or there was no memory for the copy.
 #[derive(Clone, Copy, Debug, PartialEq, Eq, Error)]
@@ -97,7 +96,7 @@ impl Value {
             Value::Int(n) => Ok(Value::Int(*n)),
             Value::Str(text) => Ok(Value::Str(Seq::from_bytes(alloc, text.items())?)),
             Value::Kw(text) => Ok(Value::Kw(Seq::from_bytes(alloc, text.items())?)),
-            Value::Vector(items) => Ok(Value::Vector(copy_items(alloc, items)?)),
+            Value::Vector(items) => Ok(Value::Vector(items.copy()?)),
             Value::Map(pairs) => Ok(Value::Map(copy_pairs(alloc, pairs)?)),
             Value::Ref(name) => Ok(Value::Ref(name.copy(alloc)?)),
             Value::Actor(name) => Ok(Value::Actor(name.copy(alloc)?)),
@@ -210,18 +209,6 @@ fn equal_pairs(left: &Pairs, right: &Pairs) -> bool
         }
     }
     true
-}
-
-#[cycle(copy)]
-fn copy_items(alloc: Global, items: &Values) -> Result<Values, AllocError>
-    ensures { IfOk result (λ copied. copied ≡ items.now) }
-{
-    let mut copied = Seq::new(alloc);
-    copied.reserve(items.items().len())?;
-    for item in items.items() {
-        add(&mut copied, item.copy(alloc)?)?;
-    }
-    Ok(copied)
 }
 
 #[cycle(copy)]

@@ -86,7 +86,7 @@ fn place(alloc: Global, items: &mut Values, number: i64, value: &Value) -> Resul
     }
     let value = value.copy(alloc)?;
     if place < length {
-        items.set(place, value);
+        items.set(place, value)?;
     } else {
         push(items, value)?;
     }

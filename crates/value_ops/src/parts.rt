@@ -10,7 +10,7 @@ ghost use Rattle.value_core.specs.primitives.Parts.{item_at, item_of, value_at, 
 use crate::OpFault;
 use crate::ints::{int_of, is_int};
 use std::alloc::Global;
-use value_core::{Key, KeyNo, Pairs, Seq, Value, Values};
+use value_core::{Key, KeyNo, Pairs, Value, Values};
 
 /// `count`
 pub(crate) fn count(args: &[Value]) -> Result<Value, OpFault>
@@ -114,7 +114,7 @@ pub(crate) fn conj(alloc: Global, args: &[Value]) -> Result<Value, OpFault>
         return Err(OpFault::WrongType);
     };
     match first {
-        Value::Vector(items) => joined(alloc, items.items(), more),
+        Value::Vector(items) => joined(alloc, items.copy()?, more),
         _ => Err(OpFault::WrongType),
     }
 }
@@ -124,7 +124,7 @@ pub(crate) fn into(alloc: Global, args: &[Value]) -> Result<Value, OpFault>
     ensures { Gives result (of_two (λ a b. into_step (out-Value a) (out-Value b)) args.now) }
 {
     match args {
-        [Value::Vector(items), Value::Vector(more)] => joined(alloc, items.items(), more.items()),
+        [Value::Vector(items), Value::Vector(more)] => joined(alloc, items.copy()?, more.items()),
         _ => Err(OpFault::WrongType),
     }
 }
@@ -133,16 +133,15 @@ pub(crate) fn into(alloc: Global, args: &[Value]) -> Result<Value, OpFault>
 pub(crate) fn vector(alloc: Global, args: &[Value]) -> Result<Value, OpFault>
     ensures { Gives result (Ok (Vector args.now)) }
 {
-    joined(alloc, args, &[])
+    joined(alloc, Values::new(alloc), args)
 }
 
 // The vector of the first items and then the others.
-fn joined(alloc: Global, first: &[Value], others: &[Value]) -> Result<Value, OpFault>
-    ensures { Gives result (Ok (Vector (first.now ++ others.now))) }
+fn joined(alloc: Global, first: Values, others: &[Value]) -> Result<Value, OpFault>
+    ensures { Gives result (Ok (Vector (first ++ others.now))) }
 {
-    let mut items = Seq::new(alloc);
-    items.reserve(first.len().saturating_add(others.len()))?;
-    push_all(alloc, &mut items, first)?;
+    let mut items = first;
+    items.reserve(others.len())?;
     push_all(alloc, &mut items, others)?;
     Ok(Value::Vector(items))
 }
@@ -174,7 +173,7 @@ pub(crate) fn rest(alloc: Global, args: &[Value]) -> Result<Value, OpFault>
     ensures { Gives result (of_one (λ c. rest_step (out-Value c)) args.now) }
 {
     match args {
-        [Value::Nil] => Ok(Value::Vector(Seq::new(alloc))),
+        [Value::Nil] => Ok(Value::Vector(Values::new(alloc))),
         [Value::Vector(items)] => part(
             alloc,
             items.items(),
@@ -191,7 +190,7 @@ fn part(alloc: Global, items: &[Value], start: usize, end: usize) -> Result<Valu
     requires in_range { end ≤ length items.now }
     ensures { Gives result (Ok (Vector (take (end - start) (drop start items.now)))) }
 {
-    joined(alloc, &items[start..end], &[])
+    joined(alloc, Values::new(alloc), &items[start..end])
 }
 
 /// `subvec`
@@ -228,7 +227,7 @@ pub(crate) fn keys(alloc: Global, args: &[Value]) -> Result<Value, OpFault>
     ensures { Gives result (of_one (λ c. keys_step (out-Value c)) args.now) }
 {
     match args {
-        [Value::Nil] => Ok(Value::Vector(Seq::new(alloc))),
+        [Value::Nil] => Ok(Value::Vector(Values::new(alloc))),
         [Value::Map(pairs)] => keys_of(alloc, pairs),
         _ => Err(OpFault::WrongType),
     }
@@ -237,7 +236,7 @@ pub(crate) fn keys(alloc: Global, args: &[Value]) -> Result<Value, OpFault>
 fn keys_of(alloc: Global, pairs: &Pairs) -> Result<Value, OpFault>
     ensures { Gives result (keys_step (one.Map pairs.now)) }
 {
-    let mut items = Seq::new(alloc);
+    let mut items = Values::new(alloc);
     for pair in pairs.items() {
         push(&mut items, key_value(alloc, &pair.key)?)?;
     }
@@ -262,7 +261,7 @@ pub(crate) fn vals(alloc: Global, args: &[Value]) -> Result<Value, OpFault>
     ensures { Gives result (of_one (λ c. vals_step (out-Value c)) args.now) }
 {
     match args {
-        [Value::Nil] => Ok(Value::Vector(Seq::new(alloc))),
+        [Value::Nil] => Ok(Value::Vector(Values::new(alloc))),
         [Value::Map(pairs)] => values_of(alloc, pairs),
         _ => Err(OpFault::WrongType),
     }
@@ -271,7 +270,7 @@ pub(crate) fn vals(alloc: Global, args: &[Value]) -> Result<Value, OpFault>
 fn values_of(alloc: Global, pairs: &Pairs) -> Result<Value, OpFault>
     ensures { Gives result (vals_step (one.Map pairs.now)) }
 {
-    let mut items = Seq::new(alloc);
+    let mut items = Values::new(alloc);
     for pair in pairs.items() {
         push(&mut items, pair.value.copy(alloc)?)?;
     }
