@@ -1,4 +1,4 @@
-ghost use Rattle.std.specs.Prelude.{◌≡◌, false, Some, IfOk, OnErr, OnOk};
+ghost use Rattle.std.specs.Prelude.{◌≡◌, false, is_some, Some, IfOk, OnErr, OnOk};
 ghost use Rattle.std.specs.Option.{option_copied, option_or};
 ghost use Rattle.serial_model.specs.Ahead.{answer_ahead};
 ghost use Rattle.serial_model.specs.Task.{done_by};
@@ -168,11 +168,25 @@ impl TaskLog {
         ensures merged { OnOk result (self.new ≡ having_merged self.old future.now child.now) }
         ensures same { OnErr result (self.new ≡ self.old) }
     {
-        let mut log = self.log.copy(alloc)?;
-        log.merge_as(alloc, future, &child.log)?;
+        let mut both = self.log.copy(alloc)?;
+        both.merge_as(alloc, future, &child.log)?;
         self.reads = self.reads.union(alloc, &child.reads)?;
-        self.log = log;
+        self.log = both;
         Ok(())
+    }
+
+    /// Merges as `merge` does, but without a copy: for want of memory the log is of no use any more.
+    pub fn take_in(
+        &mut self,
+        alloc: Global,
+        future: &Name,
+        child: &TaskLog,
+    ) -> Result<(), AllocError>
+        requires { is_among future.now self.old.log.joined ≡ false }
+        ensures { OnOk result (self.new ≡ having_merged self.old future.now child.now) }
+    {
+        self.log.merge_as(alloc, future, &child.log)?;
+        self.reads.add_all(alloc, &child.reads)
     }
 
     /// Whether the task has joined the future. It takes no memory.
@@ -180,6 +194,27 @@ impl TaskLog {
         ensures { result ≡ is_among future.now self.now.log.joined }
     {
         self.log.has_joined(future)
+    }
+
+    /// Whether the task has a value of the ref of its own, so that it does not read it from the store. It takes no memory.
+    pub fn holds(&self, name: &Name) -> bool
+        ensures { result ≡ is_some (private self.now name.now) }
+    {
+        self.private(name).is_some()
+    }
+
+    /// How many things the task has made. It takes no memory.
+    pub fn made(&self) -> u32
+        ensures { result ≡ self.now.log.made }
+    {
+        self.log.made()
+    }
+
+    /// The name of the thing with that number.
+    pub fn made_at(&self, alloc: Global, number: u32) -> Result<Name, AllocError>
+        ensures { IfOk result (λ name. name ≡ made_by self.now.log.name number) }
+    {
+        self.log.made_at(alloc, number)
     }
 
     /// The effects of the task, and those that came by joins, in order. It takes no memory.

@@ -75,10 +75,18 @@ impl Reads {
         ensures { IfOk result (λ both. both.items ≡ fold with_read self.now.items other.now.items) }
     {
         let mut both = self.copy(alloc)?;
-        for name in other.items() {
-            both.put(name.copy(alloc)?)?;
-        }
+        both.add_all(alloc, other)?;
         Ok(both)
+    }
+
+    /// Adds the refs of the other reads. For want of memory some of them may be there.
+    pub(crate) fn add_all(&mut self, alloc: Global, other: &Reads) -> Result<(), AllocError>
+        ensures { OnOk result (self.new.items ≡ fold with_read self.old.items other.now.items) }
+    {
+        for name in other.items() {
+            self.put(name.copy(alloc)?)?;
+        }
+        Ok(())
     }
 
     /// The same refs.

@@ -1,0 +1,7 @@
+pub mod Attempt
+pub mod Closing
+pub mod Forking
+pub mod Joining
+pub mod Running
+pub mod Step
+pub mod Stepping

@@ -1,0 +1,153 @@
+// The joins at the value of a task.
+ghost use Rattle.std.specs.Prelude.{◌≡◌, false, IfOk, OnErr};
+ghost use Rattle.std.specs.Option.{IsSome};
+ghost use Rattle.task_fork_join.specs.Closing.{AllWent, AreJoins, CameClose, IsClose, IsFinished, IsWent, WentAt};
+ghost use Rattle.value_core.specs.Named.{is_among, named};
+
+use crate::copies::copy_parts;
+use crate::joining::{known, take_in};
+use crate::task::{Parts, Stage, Task};
+use crate::tasks::{go, set, task_of};
+use crate::{Stepped, TaskEnd};
+use eval_step::Machine;
+use std::alloc::{AllocError, Global};
+use std::collections::BTreeMap;
+use std::mem;
+use value_core::{Name, Value};
+
+/// What comes of the joins at the value of a task: all are passed; it waits for one; or one ended otherwise.
+#[derive(Drop)]
+pub(crate) enum Went {
+    On,
+    Waits(Name),
+    Ended(TaskEnd),
+}
+
+/// What a task has done and knows after the joins at its value, and what came of them.
+#[derive(Drop)]
+pub(crate) struct Closed {
+    parts: Parts,
+    went: Went,
+}
+
+/// The task of that name is at its value: it joins its children that it has not joined, and ends, unless one of them has not
+/// finished.
+pub(crate) fn close(
+    tasks: &mut BTreeMap<Name, Task>,
+    alloc: Global,
+    name: &Name,
+    moved: Machine,
+    value: Value,
+) -> Result<Stepped, AllocError>
+    requires { IsSome (named name.now tasks.old.entries) }
+    ensures close { IfOk result (IsClose name.now moved value tasks.old.entries tasks.new.entries) }
+    ensures same { OnErr result (tasks.new.entries ≡ tasks.old.entries) }
+{
+    let closed = joins_of(tasks, alloc, name)?;
+    Ok(stop(tasks, name, moved, value, closed))
+}
+
+/// What comes of the joins at the value of the task of that name.
+fn joins_of(tasks: &BTreeMap<Name, Task>, alloc: Global, name: &Name) -> Result<Closed, AllocError>
+    requires { IsSome (named name.now tasks.now.entries) }
+    ensures { IfOk result (AreJoins name.now tasks.now.entries) }
+{
+    let mut parts = copy_parts(alloc, task_of(tasks, name))?;
+    let went = close_children(tasks, alloc, &mut parts)?;
+    Ok(Closed { parts, went })
+}
+
+/// The task of that name ends, or waits.
+fn stop(
+    tasks: &mut BTreeMap<Name, Task>,
+    name: &Name,
+    moved: Machine,
+    value: Value,
+    closed: Closed,
+) -> Stepped
+    ensures { CameClose name.now moved value closed.parts closed.went tasks.old.entries tasks.new.entries result }
+{
+    let Closed { parts, went } = closed;
+    match went {
+        Went::On => finish(tasks, name, moved, parts, TaskEnd::Value(value)),
+        Went::Waits(future) => {
+            go(tasks, name, Stage::Going(moved));
+            Stepped::WaitJoin(future)
+        }
+        Went::Ended(ended) => finish(tasks, name, moved, parts, ended),
+    }
+}
+
+/// Joins the children that are not joined, in the order of their forks, up to one that has not finished or that ended
+/// otherwise.
+fn close_children(
+    tasks: &BTreeMap<Name, Task>,
+    alloc: Global,
+    parts: &mut Parts,
+) -> Result<Went, AllocError>
+    ensures { IfOk result (AllWent tasks.now.entries parts.old parts.new) }
+{
+    for number in 0..parts.log.made() {
+        match close_child(tasks, alloc, parts, number)? {
+            Went::On => {}
+            Went::Waits(future) => return Ok(Went::Waits(future)),
+            Went::Ended(ended) => return Ok(Went::Ended(ended)),
+        }
+    }
+    Ok(Went::On)
+}
+
+/// Joins the thing with that number, where it is a child that is not joined.
+fn close_child(
+    tasks: &BTreeMap<Name, Task>,
+    alloc: Global,
+    parts: &mut Parts,
+    number: u32,
+) -> Result<Went, AllocError>
+    ensures { IfOk result (IsWent tasks.now.entries number parts.old parts.new) }
+{
+    let future = parts.log.made_at(alloc, number)?;
+    if parts.log.has_joined(&future) {
+        return Ok(Went::On);
+    }
+    match known(tasks, &parts.knows, &future) {
+        Some(child) => close_task(alloc, parts, child, future),
+        None => Ok(Went::On),
+    }
+}
+
+/// Joins the child of that future.
+fn close_task(
+    alloc: Global,
+    parts: &mut Parts,
+    child: &Task,
+    future: Name,
+) -> Result<Went, AllocError>
+    requires { is_among future parts.old.log.log.joined ≡ false }
+    ensures { IfOk result (WentAt child.now.stage future child.now parts.old parts.new) }
+{
+    match &child.stage {
+        Stage::Going(_) => Ok(Went::Waits(future)),
+        Stage::Ended(TaskEnd::Value(_)) => {
+            take_in(alloc, parts, child, &future)?;
+            Ok(Went::On)
+        }
+        Stage::Ended(TaskEnd::Fault(code, at)) => Ok(Went::Ended(TaskEnd::Fault(*code, *at))),
+        Stage::Ended(TaskEnd::Spent) => Ok(Went::Ended(TaskEnd::Spent)),
+    }
+}
+
+/// The task of that name ends so, and has done this; its machine is needed no more.
+fn finish(
+    tasks: &mut BTreeMap<Name, Task>,
+    name: &Name,
+    moved: Machine,
+    parts: Parts,
+    ended: TaskEnd,
+) -> Stepped
+    ensures { IsFinished name.now parts ended tasks.old.entries tasks.new.entries result }
+{
+    mem::drop(moved);
+    set(tasks, name, parts, Stage::Ended(ended));
+    Stepped::Finished
+}

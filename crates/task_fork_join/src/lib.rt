@@ -1,0 +1,17 @@
+//! The tasks of an attempt at a transaction, stepped in any order: what a step is, and what it keeps.
+#![tactic(auto)]
+
+mod answering;
+mod closing;
+mod copies;
+mod forking;
+mod joining;
+mod laws;
+mod stepped;
+mod task;
+mod task_end;
+mod tasks;
+
+pub use laws::{ends_are_of_transactions, new_attempts_run, steps_keep_runs};
+pub use stepped::Stepped;
+pub use task_end::TaskEnd;
