@@ -1,9 +1,9 @@
-ghost use Rattle.std.specs.Prelude.{◌≡◌, ◌↔◌, ◌<◌, None, Some, IfNone, IfOk, IfSome, IsSome, IsTrue, OnErr, false, length, slice_set, true};
+ghost use Rattle.std.specs.Prelude.{◌≡◌, ◌↔◌, ◌<◌, ◌≤◌, ◌^◌, None, Some, IfNone, IfOk, IfSome, IsSome, IsTrue, OnErr, false, length, slice_set, true};
 ghost use Rattle.std.specs.Option.{option_copied};
 ghost use Rattle.value_core.specs.declared.ticket.Ticket.{Ticket as Numbered};
 ghost use Rattle.record_pool.specs.Pool.{find};
 ghost use Rattle.record_pool.specs.Tickets.{HasMoreRoom, IsGiven, IsPut};
-ghost use Rattle.piece_table.specs.Table.{AreFlags, CanLend, IsTakenBack, IsUnlent, has_free};
+ghost use Rattle.piece_table.specs.Table.{AreFlags, AreTied, CanLend, IsTakenBack, IsUnlent, can_lend, has_free};
 
 use crate::Piece;
 use record_pool::Pool;
@@ -55,6 +55,31 @@ impl PieceTable {
         self.pieces.get(ticket)
     }
 
+    /// Whether the piece of the ticket is there, ready and not lent. It takes no memory.
+    pub fn can_lend(&self, ticket: Ticket) -> bool
+        ensures { result ≡ has_free (find self.now.pieces ticket) }
+    {
+        match self.pieces.get(ticket) {
+            Some(piece) => can_be_lent(*piece),
+            None => false,
+        }
+    }
+
+    /// How many slots were made for pieces.
+    pub fn slots(&self) -> usize
+        ensures value { result ≡ length self.now.pieces.places }
+        ensures small { result < 2 ^ 63 }
+    {
+        self.pieces.slots()
+    }
+
+    /// Each claim lends a piece that says so, and each piece that is lent has its claim. It does nothing.
+    pub fn claims_are_tied(&self)
+        ensures { AreTied self.now.pieces self.now.claims }
+    {
+        let _slots = self.pieces.slots();
+    }
+
     /// A piece that can be lent. None exactly where there is none. It takes no memory.
     pub fn first_ready(&self) -> Option<Ticket>
         ensures some { IfSome result (CanLend self.now) }
@@ -76,6 +101,7 @@ impl PieceTable {
         ensures added { IfOk result (λ ticket. IsGiven self.old.pieces self.new.pieces ticket (record { is_ready = is_ready; lent = None })) }
         ensures same { OnErr result (HasMoreRoom self.old.pieces self.new.pieces) }
         ensures claims { self.new.claims ≡ self.old.claims }
+        ensures near { IfOk result (λ ticket. ticket.slot ≤ length self.old.pieces.places) }
     {
         self.pieces.reserve(1)?;
         self.ready.reserve(self.pieces.slots() + 1)?;
@@ -205,8 +231,15 @@ fn replace(pieces: &mut Pool<Piece>, ready: &mut SlotSet, ticket: Ticket, piece:
     ensures was { find pieces.old ticket ≡ Some result }
     ensures put { IsPut pieces.old pieces.new ticket (Some piece) }
 {
-    flag(ready, ticket.slot, piece.is_ready && piece.lent.is_none());
+    flag(ready, ticket.slot, can_be_lent(piece));
     pieces.put(ticket, piece)
+}
+
+/// Whether the piece is ready and not lent.
+fn can_be_lent(piece: Piece) -> bool
+    ensures { result ≡ can_lend piece }
+{
+    piece.is_ready && piece.lent.is_none()
 }
 
 /// Puts the slot into the set, or takes it out.

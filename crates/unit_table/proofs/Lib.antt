@@ -1,0 +1,6 @@
+pub mod Changes
+pub mod Contents
+pub mod Lending
+pub mod Noting
+pub mod Sames
+pub mod Wakes

@@ -1,0 +1,133 @@
+-- How pieces are kept. No public clause speaks of it.
+use Rattle.std.specs.Prelude.{◌≡◌, ◌≢◌, ◌⊎◌, ◌<◌, ◌≤◌, ℕ, Bool, List, Option, None, Some, count_by, false, is_some, length, true}
+use Rattle.std.specs.Option.{IfSome, IsSome, option_and_then, option_map}
+use Rattle.piece_table.specs.Table.{AreTied, IsUnlent, Table}
+use Rattle.record_pool.specs.Tickets.{IsGiven, IsPut}
+use Rattle.piece_table.specs.declared.piece.Piece.{Piece as Kept}
+use Rattle.record_pool.specs.Pool.{find}
+use Rattle.unit_table.specs.Board.{Board, marks_ready, name_in, piece_at}
+use Rattle.unit_table.specs.Piece.{awaited, is_for, mark_in, marked, woken}
+use Rattle.unit_table.specs.declared.mark.Mark.{Mark}
+use Rattle.unit_table.specs.declared.mark.Mark.TheVariants as mark
+use Rattle.unit_table.specs.declared.mark.Work.TheVariants as work
+use Rattle.unit_table.specs.declared.piece.Piece.{Piece}
+use Rattle.unit_table.specs.declared.places.Places.{Places}
+use Rattle.unit_table.specs.declared.record.Record.{Record}
+use Rattle.value_core.specs.Named.{IsChanged, Name, Named, named}
+use Rattle.value_core.specs.declared.ticket.Ticket.{Ticket}
+use Rattle.wait_lists.specs.WaitLists.{need_of}
+
+-- the board of the places
+abbrev pub board_of : Places → Board
+board_of p = record { records = p.records.entries; names = p.names.items; table = p.table }
+
+-- the ticket and the slot of the place under the name
+abbrev pub ticket_at : Named Record → Name → Option Ticket
+ticket_at records name = option_map (λ (r : Record). r.ticket) (named name records)
+
+abbrev pub slot_at : Named Record → Name → Option ℕ
+slot_at records name = option_map (λ (r : Record). r.ticket.slot) (named name records)
+
+-- for whose finish what stands there waits
+abbrev pub waits_for : Option Piece → Option Name
+waits_for found = option_and_then (λ (p : Piece). awaited (mark_in p)) found
+
+-- the slot of that
+abbrev pub need_at : Named Record → Option Name → Option ℕ
+need_at records for = option_and_then (slot_at records) for
+
+-- A place: its slot has its name and can wait; the table says whether it is ready; and it waits for what its mark says, which
+-- has a place. What is not ready is not lent.
+pub record IsPlace (b : Board) (waits : List (Option ℕ)) (name : Name) (r : Record) : Type 0 where
+  pub called : name_in b.names r.ticket.slot ≡ Some name
+  pub room : r.ticket.slot < length waits
+  pub kept : Kept
+  pub there : find b.table.pieces r.ticket ≡ Some kept
+  pub ready : kept.is_ready ≡ marks_ready r.piece
+  pub need : need_of waits r.ticket.slot ≡ need_at b.records (waits_for r.piece)
+  pub awaited : IfSome (waits_for r.piece) (λ f. IsSome (named f b.records))
+  pub idle : kept.is_ready ≡ false → kept.lent ≡ None
+
+-- a place has that ticket
+pub record HasTicket (b : Board) (ticket : Ticket) : Type 0 where
+  pub name : Name
+  pub place : Record
+  pub there : named name b.records ≡ Some place
+  pub ticket_is : place.ticket ≡ ticket
+
+-- nothing stands in the place of that ticket
+pub record IsEmptyPlace (b : Board) (ticket : Ticket) : Type 0 where
+  pub name : Name
+  pub there : ticket_at b.records name ≡ Some ticket
+  pub empty : piece_at b name ≡ None
+
+-- a place has that slot
+pub record HasSlot (b : Board) (slot : ℕ) : Type 0 where
+  pub name : Name
+  pub place : Record
+  pub there : named name b.records ≡ Some place
+  pub slot_is : place.ticket.slot ≡ slot
+
+-- Each place is kept so; each piece of the table has its place; what waits has one; and the claims are those of the pieces.
+pub record IsKept (b : Board) (waits : List (Option ℕ)) : Type 0 where
+  pub places : (name : Name) (r : Record) → named name b.records ≡ Some r → IsPlace b waits name r
+  pub tickets : (ticket : Ticket) (kept : Kept) → find b.table.pieces ticket ≡ Some kept → HasTicket b ticket
+  pub waiting : (slot need : ℕ) → need_of waits slot ≡ Some need → HasSlot b slot
+  pub tied : AreTied b.table.pieces b.table.claims
+
+-- the piece of the ticket has that flag and is lent no more
+pub record IsFlagged (old new : Table) (ticket : Ticket) (is_ready : Bool) : Type 0 where
+  pub put : IsPut old.pieces new.pieces ticket (Some (record { is_ready = is_ready; lent = None }))
+  pub unlent : IfSome (find old.pieces ticket) (λ (kept : Kept). IsUnlent old.claims new.claims kept.lent)
+
+-- and it waits for that slot, or for none
+pub record IsNoted (old new : Places) (ticket : Ticket) (is_ready : Bool) (need : Option ℕ) : Type 0 where
+  pub records : new.records ≡ old.records
+  pub names : new.names ≡ old.names
+  pub flagged : IsFlagged old.table new.table ticket is_ready
+  pub tied : AreTied new.table.pieces new.table.claims
+  pub need_here : need_of new.waits ticket.slot ≡ need
+  pub need_others : (slot : ℕ) → slot ≢ ticket.slot → need_of new.waits slot ≡ need_of old.waits slot
+  pub room : length new.waits ≡ length old.waits
+
+-- what stands in the place has that mark, or is gone
+abbrev pub IsMarkedAs : Mark → Record → Record → Type 0
+IsMarkedAs mark r after = after ≡ record r { piece = option_and_then (marked mark) r.piece }
+
+-- what stands under the name is ready to settle, and is flagged so
+pub record IsSettled (name : Name) (records records_2 : Named Record) (table table_2 : Table) : Type 0 where
+  pub marked : IsChanged name records records_2 (IsMarkedAs (mark.Ready work.Settle))
+  pub flagged : IfSome (named name records) (λ (r : Record). IsFlagged table table_2 r.ticket true)
+
+-- nothing else waits, and the same slots have names
+pub record WaitsOn (old new : Places) : Type 0 where
+  pub records : new.records ≡ old.records
+  pub claims : new.table.claims ≡ old.table.claims
+  pub need : (slot : ℕ) → need_of new.waits slot ≡ need_of old.waits slot
+  pub room : length old.waits ≤ length new.waits
+
+-- a new piece of the table, which is not ready, has the name in its slot, and can wait
+pub record IsSlotMade (old new : Places) (name : Name) (ticket : Ticket) : Type 0 where
+  pub waits : WaitsOn old new
+  pub given : IsGiven old.table.pieces new.table.pieces ticket (record { is_ready = false; lent = None })
+  pub called : name_in new.names.items ticket.slot ≡ Some name
+  pub others : (slot : ℕ) → slot ≢ ticket.slot → name_in new.names.items slot ≡ name_in old.names.items slot
+  pub can_wait : ticket.slot < length new.waits
+
+-- no piece more
+pub record IsNoSlotMade (old new : Places) : Type 0 where
+  pub waits : WaitsOn old new
+  pub pieces : (ticket : Ticket) → find new.table.pieces ticket ≡ find old.table.pieces ticket
+  pub names : (slot : ℕ) → name_in new.names.items slot ≡ name_in old.names.items slot
+
+-- how many slots wait
+abbrev pub waiting_count : List (Option ℕ) → ℕ
+waiting_count waits = count_by is_some waits
+
+-- what stands under each name is what stood there, or is woken
+abbrev pub IsWokenOrSame : Name → Board → Board → Type 0
+IsWokenOrSame name old new = (other : Name) → (piece_at new other ≡ piece_at old other) ⊎ (piece_at new other ≡ option_map (woken name) (piece_at old other))
+
+-- nothing waits for the finish of the name
+abbrev pub NoneWaits : Name → Board → Type 0
+NoneWaits name b = (other : Name) (p : Piece) → piece_at b other ≡ Some p → is_for name (awaited (mark_in p)) ≡ false

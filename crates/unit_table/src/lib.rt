@@ -1,0 +1,15 @@
+//! What the workers can claim, by name: units, tasks and actors, with their marks; which of them are ready, and which are lent.
+#![tactic(auto)]
+
+mod mark;
+mod piece;
+mod places;
+mod record;
+mod unit;
+mod units;
+mod waking;
+
+pub use mark::{Mark, WaitOn, Work};
+pub use piece::{Actor, Piece};
+pub use unit::{Unit, UnitKind};
+pub use units::Units;

@@ -1,0 +1,151 @@
+ghost use Rattle.std.specs.Prelude.{◌≡◌, None, Some, OnErr, OnOk};
+ghost use Rattle.std.specs.Option.{option_map};
+ghost use Rattle.unit_table.specs.Keeping.{slot_at, ticket_at, IsMarkedAs};
+ghost use Rattle.unit_table.specs.Piece.{moved, with_mark, with_state};
+ghost use Rattle.value_core.specs.Named.{with_named, IsChanged};
+
+use crate::mark::Mark;
+use crate::piece::{Piece, machine_goes};
+use eval_step::Machine;
+use serial_model::ActorState;
+use std::alloc::AllocError;
+use std::collections::BTreeMap;
+use std::mem;
+use value_core::name_map::{find, put};
+use value_core::{Name, Ticket};
+
+/// The place under a name: its ticket, and what stands there, where something does.
+#[derive(Drop)]
+pub struct Record {
+    pub(crate) ticket: Ticket,
+    pub(crate) piece: Option<Piece>,
+}
+
+/// The ticket of the place under the name, where there is one.
+pub(crate) fn ticket_in(records: &BTreeMap<Name, Record>, name: &Name) -> Option<Ticket>
+    ensures { result ≡ ticket_at records.now.entries name.now }
+{
+    match find(records, name) {
+        Some(place) => Some(place.ticket),
+        None => None,
+    }
+}
+
+/// The slot of the place under the name, where there is one.
+pub(crate) fn slot_in(records: &BTreeMap<Name, Record>, name: &Name) -> Option<usize>
+    ensures { result ≡ slot_at records.now.entries name.now }
+{
+    match find(records, name) {
+        Some(place) => Some(place.ticket.slot),
+        None => None,
+    }
+}
+
+/// Makes an empty place of that ticket under the name. For want of memory the places stay.
+pub(crate) fn put_place(
+    records: &mut BTreeMap<Name, Record>,
+    name: Name,
+    ticket: Ticket,
+) -> Result<(), AllocError>
+    ensures put { OnOk result (records.new.entries ≡ with_named records.old.entries name (record { ticket = ticket; piece = None })) }
+    ensures same { OnErr result (records.new.entries ≡ records.old.entries) }
+{
+    let place = Record {
+        ticket,
+        piece: None,
+    };
+    put(records, name, place)
+}
+
+/// Puts the piece into the place, where there is one. It takes no memory.
+pub(crate) fn fill(records: &mut BTreeMap<Name, Record>, name: &Name, piece: Piece)
+    ensures { IsChanged name.now records.old.entries records.new.entries (λ r after. after ≡ record r { piece = Some piece }) }
+{
+    match records.get_mut(name) {
+        Some(place) => place.put(Some(piece)),
+        None => let_go(Some(piece)),
+    }
+}
+
+/// Puts the mark on what stands in the place, where something does; it is gone where it is dropped. It takes no memory.
+pub(crate) fn put_mark(records: &mut BTreeMap<Name, Record>, name: &Name, mark: Mark)
+    ensures { IsChanged name.now records.old.entries records.new.entries (IsMarkedAs mark) }
+{
+    match records.get_mut(name) {
+        Some(place) => place.put_mark(mark),
+        None => {}
+    }
+}
+
+/// Puts the machine of the unit in the place, where there is one, and how many things it has made. It takes no memory.
+pub(crate) fn move_unit(
+    records: &mut BTreeMap<Name, Record>,
+    name: &Name,
+    machine: Machine,
+    made: u32,
+)
+    ensures { IsChanged name.now records.old.entries records.new.entries (λ r after. after ≡ record r { piece = option_map (moved machine made) r.piece }) }
+{
+    match records.get_mut(name) {
+        Some(place) => place.move_unit(machine, made),
+        None => machine_goes(machine),
+    }
+}
+
+/// Puts the state of the actor in the place, where there is one. It takes no memory.
+pub(crate) fn set_actor(records: &mut BTreeMap<Name, Record>, name: &Name, state: ActorState)
+    ensures { IsChanged name.now records.old.entries records.new.entries (λ r after. after ≡ record r { piece = option_map (with_state state) r.piece }) }
+{
+    match records.get_mut(name) {
+        Some(place) => place.set_actor(state),
+        None => {}
+    }
+}
+
+impl Record {
+    fn put(&mut self, piece: Option<Piece>)
+        ensures { self.new ≡ record self.old { piece = piece } }
+    {
+        let_go(mem::replace(&mut self.piece, piece));
+    }
+
+    fn move_unit(&mut self, machine: Machine, made: u32)
+        ensures { self.new ≡ record self.old { piece = option_map (moved machine made) self.old.piece } }
+    {
+        match &mut self.piece {
+            Some(piece) => piece.move_unit(machine, made),
+            None => machine_goes(machine),
+        }
+    }
+
+    fn set_actor(&mut self, state: ActorState)
+        ensures { self.new ≡ record self.old { piece = option_map (with_state state) self.old.piece } }
+    {
+        match &mut self.piece {
+            Some(piece) => piece.set_actor(state),
+            None => {}
+        }
+    }
+
+    fn put_mark(&mut self, mark: Mark)
+        ensures { IsMarkedAs mark self.old self.new }
+    {
+        if mark.is_dropped() {
+            self.put(None);
+        } else {
+            self.keep_mark(mark);
+        }
+    }
+
+    fn keep_mark(&mut self, mark: Mark)
+        ensures { self.new ≡ record self.old { piece = option_map (λ p. with_mark p mark) self.old.piece } }
+    {
+        match &mut self.piece {
+            Some(piece) => piece.set_mark(mark),
+            None => {}
+        }
+    }
+}
+
+/// Drops what stood in a place.
+fn let_go(_piece: Option<Piece>) {}

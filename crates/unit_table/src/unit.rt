@@ -1,0 +1,50 @@
+ghost use Rattle.std.specs.Prelude.{◌≡◌};
+ghost use Rattle.unit_table.specs.declared.mark.Mark.TheVariants as mark;
+ghost use Rattle.unit_table.specs.declared.mark.Work.TheVariants as work;
+
+use crate::mark::{Mark, Work};
+use crate::piece::machine_goes;
+use eval_step::Machine;
+use std::mem;
+use value_core::Name;
+
+/// What a unit is: the first one, one that was forked, or a turn of an actor.
+#[derive(Drop)]
+pub enum UnitKind {
+    Main,
+    Plain,
+    Turn(Name),
+}
+
+/// A unit: what it is, where its evaluation stands, how many things it has made, and its mark.
+#[derive(Drop)]
+pub struct Unit {
+    pub name: Name,
+    pub kind: UnitKind,
+    pub machine: Machine,
+    pub made: u32,
+    pub mark: Mark,
+}
+
+impl Unit {
+    /// A unit that has made nothing and is ready to go on.
+    pub(crate) fn new(name: Name, kind: UnitKind, machine: Machine) -> Self
+        ensures { result ≡ record { name = name; kind = kind; machine = machine; made = 0; mark = mark.Ready work.Eval } }
+    {
+        Unit {
+            name,
+            kind,
+            machine,
+            made: 0,
+            mark: Mark::Ready(Work::Eval),
+        }
+    }
+
+    /// Puts the machine, and how many things the unit has made.
+    pub(crate) fn move_to(&mut self, machine: Machine, made: u32)
+        ensures { self.new ≡ record self.old { machine = machine; made = made } }
+    {
+        machine_goes(mem::replace(&mut self.machine, machine));
+        self.made = made;
+    }
+}
