@@ -5,4 +5,6 @@ pub mod Forks
 pub mod Joins
 pub mod Members
 pub mod Replying
+pub mod Rooted
+pub mod Staying
 pub mod Steps

@@ -11,7 +11,9 @@ mod stepped;
 mod task;
 mod task_end;
 mod tasks;
+mod tree;
 
 pub use laws::{ends_are_of_transactions, new_attempts_run, steps_keep_runs};
 pub use stepped::Stepped;
 pub use task_end::TaskEnd;
+pub use tree::Tree;

@@ -1,0 +1,5 @@
+//! Tests of the tasks of an attempt.
+#![tactic(auto)]
+
+#[cfg(test)]
+mod trees;
