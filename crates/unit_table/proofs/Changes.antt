@@ -64,7 +64,7 @@ module _ (b b_2 : Board) (waits waits_2 : List (Option ℕ)) (name : Name) (r : 
   abbrev pub old : IsPlace b waits name r
   old = kept.places name r ch.there
 
-  there_still : (q : Name) → IsSome (named q b.records) → IsSome (named q b_2.records)
+  pub there_still : (q : Name) → IsSome (named q b.records) → IsSome (named q b_2.records)
   there_still q is = elim (same_or_not q name) [
     | inl same ↦ subst (λ o. IsSome o) (sym (ap (λ n. named n b_2.records) same ∙ ch.here)) refl
     | inr apart ↦ subst (λ o. IsSome o) (sym (ch.others q apart)) is

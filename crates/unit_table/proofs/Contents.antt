@@ -95,6 +95,9 @@ module _ (b : Board) (records : Named Record) (waits : List (Option ℕ)) (name 
   pub content_put : IsPutAt name (Some (f p)) b (with_records b records)
   content_put = changes.put b (with_records b records) waits waits name r (Some (f p)) place.kept.lent kept changes_it
 
+  pub content_places : (q : Name) → IsSome (named q b.records) → IsSome (named q records)
+  content_places = changes.there_still b (with_records b records) waits waits name r (Some (f p)) place.kept.lent kept changes_it
+
   pub content_claims : SameClaims b (with_records b records)
   content_claims = record {
     lent = λ q. elim (same_or_not q name) [
@@ -160,6 +163,9 @@ module _ (b : Board) (records : Named Record) (waits : List (Option ℕ)) (name 
   pub moved_claims : SameClaims b (with_records b records)
   moved_claims = content_claims b records waits name (moved machine made) (piece.Unit found.kept) kept found.stands refl changed
 
+  pub moved_places : (q : Name) → IsSome (named q b.records) → IsSome (named q records)
+  moved_places = content_places b records waits name (moved machine made) (piece.Unit found.kept) kept found.stands refl changed
+
   pub moved_put : IfSome (unit_at b name) (λ unit. IsPutAt name (Some (piece.Unit (record unit { machine = machine; made = made }))) b (with_records b records))
   moved_put = subst (λ o. IfSome o (λ unit. IsPutAt name (Some (piece.Unit (record unit { machine = machine; made = made }))) b (with_records b records))) (sym (ap (option_and_then unit_in) found.stands))
       (content_put b records waits name (moved machine made) (piece.Unit found.kept) kept found.stands refl changed)
@@ -174,6 +180,9 @@ module _ (b : Board) (records : Named Record) (waits : List (Option ℕ)) (name 
 
   pub state_claims : SameClaims b (with_records b records)
   state_claims = content_claims b records waits name (with_state state) (piece.Actor actor.kept) kept actor.stands refl changed
+
+  pub state_places : (q : Name) → IsSome (named q b.records) → IsSome (named q records)
+  state_places = content_places b records waits name (with_state state) (piece.Actor actor.kept) kept actor.stands refl changed
 
   pub state_put : IfSome (mark_at b name) (λ mark. IsPutAt name (Some (piece.Actor (record { state = state; mark = mark }))) b (with_records b records))
   state_put = subst (λ o. IfSome o (λ mark. IsPutAt name (Some (piece.Actor (record { state = state; mark = mark }))) b (with_records b records))) (sym (ap (option_map mark_in) actor.stands))

@@ -104,6 +104,9 @@ module _ (old mid : Places) (records : Named Record) (name : Name) (ticket : Tic
   pub noted_unlent : IsUnlent name (board_of old) b_2
   noted_unlent = changes.unlent (board_of old) b_2 old.waits mid.waits name r piece kept noted_changes noted_r.flagged.unlent
 
+  pub noted_places : (q : Name) → IsSome (named q old.records.entries) → IsSome (named q records)
+  noted_places = changes.there_still (board_of old) b_2 old.waits mid.waits name r piece None kept noted_changes
+
   pub noted_ticket : ticket_at records name ≡ Some ticket
   noted_ticket = ap (option_map (λ (p : Record). p.ticket)) noted_changes.here ∙ ap Some place_at.2
 
@@ -138,6 +141,9 @@ module _ (old mid : Places) (records : Named Record) (ticket : Ticket) (piece : 
 
   pub filled_claims : SameClaims (board_of old) (noted_board mid records)
   filled_claims = noted_claims old mid records place.name ticket (Some piece) _ kept place.there notes changes_place (λ r after there is. is) waits_none place.empty
+
+  pub filled_places : (q : Name) → IsSome (named q old.records.entries) → IsSome (named q records)
+  filled_places = noted_places old mid records place.name ticket (Some piece) _ kept place.there notes changes_place (λ r after there is. is) waits_none
 
   pub filled_put : (name : Name) → ticket_at old.records.entries name ≡ Some ticket → IsPutAt name (Some piece) (board_of old) (noted_board mid records)
   filled_put name is =
@@ -205,3 +211,6 @@ module _ (old mid : Places) (records : Named Record) (name : Name) (ticket : Tic
 
   pub marked_ticket : ticket_at records name ≡ Some ticket
   marked_ticket = noted_ticket old mid records name ticket then (IsMarkedAs mark) kept is notes_mark marks_place puts_mark waits_there
+
+  pub marked_places : (q : Name) → IsSome (named q old.records.entries) → IsSome (named q records)
+  marked_places = noted_places old mid records name ticket then (IsMarkedAs mark) kept is notes_mark marks_place puts_mark waits_there

@@ -177,6 +177,9 @@ module _ (old : Places) (waits_2 : List (Option ℕ)) (records : Named Record) (
   unfolding wakes_it
   wakes_claims = changes.same_claims (board_of old) b_2 old.waits waits_2 has.name r (Some woken_piece) kept wakes_it flagged.unlent (place.idle was_idle)
 
+  pub wakes_places : (q : Name) → IsSome (named q old.records.entries) → IsSome (named q records)
+  wakes_places = changes.there_still (board_of old) b_2 old.waits waits_2 has.name r (Some woken_piece) None kept wakes_it
+
   pub wakes_slot : slot_at records name ≡ Some slot
   wakes_slot = changes.slot_same (board_of old) b_2 old.waits waits_2 has.name r (Some woken_piece) None kept wakes_it name ∙ is
 

@@ -116,6 +116,7 @@ impl Places {
         ensures pieces { SamePieces (board_of self.old) (board_of self.new) }
         ensures claims { SameClaims (board_of self.old) (board_of self.new) }
         ensures succeeds { HasPlace (board_of self.old) name.now → IsOk result }
+        ensures places { (other : Called) → HasPlace (board_of self.old) other → HasPlace (board_of self.new) other }
     {
         match self.ticket_of(name) {
             Some(ticket) => Ok(ticket),
@@ -131,6 +132,7 @@ impl Places {
         ensures kept { IsKept (board_of self.new) self.new.waits }
         ensures put { (name : Called) → ticket_at (board_of self.old).records name ≡ Some ticket → IsPutAt name (Some piece) (board_of self.old) (board_of self.new) }
         ensures claims { SameClaims (board_of self.old) (board_of self.new) }
+        ensures places { (other : Called) → HasPlace (board_of self.old) other → HasPlace (board_of self.new) other }
     {
         let is_ready = piece.mark().is_ready();
         self.note(ticket, is_ready, None);
@@ -146,6 +148,7 @@ impl Places {
         ensures kept { IsKept (board_of self.new) self.new.waits }
         ensures marked { IsMarked name.now mark (board_of self.old) (board_of self.new) }
         ensures claims { IsUnlent name.now (board_of self.old) (board_of self.new) }
+        ensures places { (other : Called) → HasPlace (board_of self.old) other → HasPlace (board_of self.new) other }
     {
         if let Some(ticket) = self.ticket_of(name) {
             let is_finished = mark.is_finished();
@@ -166,6 +169,7 @@ impl Places {
         ensures put { IsPutAt name.now (option_and_then (marked mark) (piece_at (board_of self.old) name.now)) (board_of self.old) (board_of self.new) }
         ensures claims { IsUnlent name.now (board_of self.old) (board_of self.new) }
         ensures ticket { ticket_at (board_of self.new).records name.now ≡ Some ticket }
+        ensures places { (other : Called) → HasPlace (board_of self.old) other → HasPlace (board_of self.new) other }
     {
         let is_ready = mark.is_ready();
         let need = self.need_of(&mark);
@@ -201,6 +205,7 @@ impl Places {
         ensures kept { IsKept (board_of self.new) self.new.waits }
         ensures moved { IfSome (unit_at (board_of self.old) name.now) (λ unit. IsPutAt name.now (Some (piece.Unit (record unit { machine = machine; made = made }))) (board_of self.old) (board_of self.new)) }
         ensures claims { SameClaims (board_of self.old) (board_of self.new) }
+        ensures places { (other : Called) → HasPlace (board_of self.old) other → HasPlace (board_of self.new) other }
     {
         move_unit(&mut self.records, name, machine, made);
     }
@@ -212,6 +217,7 @@ impl Places {
         ensures kept { IsKept (board_of self.new) self.new.waits }
         ensures set { IfSome (mark_at (board_of self.old) name.now) (λ mark. IsPutAt name.now (Some (piece.Actor (record { state = state; mark = mark }))) (board_of self.old) (board_of self.new)) }
         ensures claims { SameClaims (board_of self.old) (board_of self.new) }
+        ensures places { (other : Called) → HasPlace (board_of self.old) other → HasPlace (board_of self.new) other }
     {
         set_actor(&mut self.records, name, state);
     }
@@ -272,6 +278,7 @@ impl Places {
         ensures lent { IfOk result (λ claim. IsLent name.now claim (board_of self.old) (board_of self.new)) }
         ensures pieces { SamePieces (board_of self.old) (board_of self.new) }
         ensures same { OnErr result (SameClaims (board_of self.old) (board_of self.new)) }
+        ensures places { (other : Called) → HasPlace (board_of self.old) other → HasPlace (board_of self.new) other }
     {
         match self.ticket_of(name) {
             Some(ticket) => {
@@ -301,6 +308,7 @@ impl Places {
         ensures pieces { SamePieces (board_of self.old) (board_of self.new) }
         ensures unlent { IfSome (lent_to (board_of self.old) claim) (λ name. IsUnlent name (board_of self.old) (board_of self.new)) }
         ensures same { IfNone (lent_to (board_of self.old) claim) (SameClaims (board_of self.old) (board_of self.new)) }
+        ensures places { (other : Called) → HasPlace (board_of self.old) other → HasPlace (board_of self.new) other }
     {
         match self.table.piece_of(claim) {
             Some(_) => {

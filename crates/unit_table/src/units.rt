@@ -73,6 +73,7 @@ impl Units {
         ensures same { OnErr result (SamePieces self.old self.new) }
         ensures claims { SameClaims self.old self.new }
         ensures succeeds { HasPlace self.old name → IsOk result }
+        ensures places { (other : Called) → HasPlace self.old other → HasPlace self.new other }
     {
         match self.places.place(alloc, &name) {
             Ok(ticket) => {
@@ -100,6 +101,7 @@ impl Units {
         ensures same { OnErr result (SamePieces self.old self.new) }
         ensures claims { SameClaims self.old self.new }
         ensures succeeds { HasPlace self.old name.now → IsOk result }
+        ensures places { (other : Called) → HasPlace self.old other → HasPlace self.new other }
     {
         let ticket = self.places.place(alloc, name)?;
         let actor = Actor {
@@ -118,6 +120,7 @@ impl Units {
         ensures same { OnErr result (SamePieces self.old self.new) }
         ensures claims { SameClaims self.old self.new }
         ensures succeeds { HasPlace self.old name.now → IsOk result }
+        ensures places { (other : Called) → HasPlace self.old other → HasPlace self.new other }
     {
         let ticket = self.places.place(alloc, name)?;
         self.places
@@ -167,6 +170,7 @@ impl Units {
         requires { IsSome (unit_at self.old name.now) }
         ensures moved { IfSome (unit_at self.old name.now) (λ unit. IsPutAt name.now (Some (piece.Unit (record unit { machine = machine; made = made }))) self.old self.new) }
         ensures claims { SameClaims self.old self.new }
+        ensures places { (other : Called) → HasPlace self.old other → HasPlace self.new other }
     {
         self.places.move_unit(name, machine, made);
     }
@@ -176,6 +180,7 @@ impl Units {
         requires { IsSome (actor_at self.old name.now) }
         ensures set { IfSome (mark_at self.old name.now) (λ mark. IsPutAt name.now (Some (piece.Actor (record { state = state; mark = mark }))) self.old self.new) }
         ensures claims { SameClaims self.old self.new }
+        ensures places { (other : Called) → HasPlace self.old other → HasPlace self.new other }
     {
         self.places.set_actor(name, state);
     }
@@ -187,6 +192,7 @@ impl Units {
         requires can_wait { CanWait self.old mark }
         ensures marked { IsMarked name.now mark self.old self.new }
         ensures claims { IsUnlent name.now self.old self.new }
+        ensures places { (other : Called) → HasPlace self.old other → HasPlace self.new other }
     {
         self.places.mark(name, mark);
     }
@@ -212,6 +218,7 @@ impl Units {
         ensures lent { IfOk result (λ claim. IsLent name.now claim self.old self.new) }
         ensures pieces { SamePieces self.old self.new }
         ensures same { OnErr result (SameClaims self.old self.new) }
+        ensures places { (other : Called) → HasPlace self.old other → HasPlace self.new other }
     {
         self.places.lend(name)
     }
@@ -229,6 +236,7 @@ impl Units {
         ensures pieces { SamePieces self.old self.new }
         ensures unlent { IfSome (lent_to self.old claim) (λ name. IsUnlent name self.old self.new) }
         ensures same { IfNone (lent_to self.old claim) (SameClaims self.old self.new) }
+        ensures places { (other : Called) → HasPlace self.old other → HasPlace self.new other }
     {
         self.places.take_back(claim)
     }

@@ -2,7 +2,7 @@ use Rattle.std.proofs.Common.{◌≡◌, ◌∙◌, Some, None, IsSome, ap, refl
 use Rattle.unit_table.specs.Board.{name_in}
 use Rattle.unit_table.specs.Keeping.{board_of}
 use Rattle.unit_table.specs.Piece.{says_ready}
-use Rattle.unit_table.proofs.Noting.{filled_claims, filled_keeps, filled_put, ticket_called, ticket_room, ticket_there}
+use Rattle.unit_table.proofs.Noting.{filled_claims, filled_keeps, filled_places, filled_put, ticket_called, ticket_room, ticket_there}
 use Rattle.unit_table.proofs.places.Places.fill.Goals as goal
 
 pub note-requires-clause-there : goal.note-requires-clause-there
@@ -23,3 +23,6 @@ returns-clause-claims c = filled_claims c.args.self.now c.note.new.self c.fill_s
 
 pub returns-clause-put : goal.returns-clause-put
 returns-clause-put c = filled_put c.args.self.now c.note.new.self c.fill_slot.new.records.entries c.args.ticket c.args.piece c.is_ready-is_ready.result c.requires.kept c.requires.place c.requires.idle c.note.ensures (c.is_ready-is_ready.ensures ∙ ap says_ready c.mark.ensures) c.fill_slot.ensures
+
+pub returns-clause-places : goal.returns-clause-places
+returns-clause-places c = filled_places c.args.self.now c.note.new.self c.fill_slot.new.records.entries c.args.ticket c.args.piece c.is_ready-is_ready.result c.requires.kept c.requires.place c.requires.idle c.note.ensures (c.is_ready-is_ready.ensures ∙ ap says_ready c.mark.ensures) c.fill_slot.ensures

@@ -2,7 +2,7 @@ use Rattle.std.proofs.Common.{◌≡◌, ◌<◌, ◌∙◌, Some, None, IsSome,
 use Rattle.std.specs.Option.{IfSome}
 use Rattle.unit_table.specs.Keeping.{board_of}
 use Rattle.unit_table.specs.Piece.{awaited}
-use Rattle.unit_table.proofs.Noting.{marked_keeps, marked_put, marked_ticket, marked_unlent, need_room, ticket_room, ticket_there}
+use Rattle.unit_table.proofs.Noting.{marked_keeps, marked_places, marked_put, marked_ticket, marked_unlent, need_room, ticket_room, ticket_there}
 use Rattle.unit_table.proofs.places.Places.put_mark.Goals as goal
 
 pub note-requires-clause-there : goal.note-requires-clause-there
@@ -27,3 +27,6 @@ returns-clause-claims c = marked_unlent c.args.self.now c.note.new.self c.put_ma
 
 pub returns-clause-ticket : goal.returns-clause-ticket
 returns-clause-ticket c = marked_ticket c.args.self.now c.note.new.self c.put_mark.new.records.entries c.args.name.now c.args.ticket c.args.mark c.is_ready-is_ready.result c.need_of-need.result c.requires.kept c.requires.ticket c.requires.there c.requires.can_wait c.note.ensures c.is_ready-is_ready.ensures c.need_of-need.ensures c.put_mark.ensures
+
+pub returns-clause-places : goal.returns-clause-places
+returns-clause-places c = marked_places c.args.self.now c.note.new.self c.put_mark.new.records.entries c.args.name.now c.args.ticket c.args.mark c.is_ready-is_ready.result c.need_of-need.result c.requires.kept c.requires.ticket c.requires.there c.requires.can_wait c.note.ensures c.is_ready-is_ready.ensures c.need_of-need.ensures c.put_mark.ensures
