@@ -1,0 +1,397 @@
+-- An attempt whose root is at its end keeps what is kept standing: it commits, or ends the run.
+use Rattle.std.proofs.Common.{◌≡◌, ◌∙◌, ◌≤◌, ℕ, suc, Bool, true, false, cond, length, length-append, drop, List, [], ◌∷◌, ◌++◌, inr, refl, sym, ap, subst, arith}
+use Rattle.std.specs.Option.{option_and_then, option_map, option_or}
+use Rattle.std.specs.Prelude.{Option, None, Some, All, Contains, IfSome, is_some, map}
+use Rattle.actor_mailbox.specs.Messages.{settle}
+use Rattle.ref_store.proofs.StoreLaws.{above_committed, above_pruned, read_below}
+use Rattle.ref_store.specs.declared.version.Version.{Version}
+use Rattle.ref_store.specs.Store.{IsAbove, committed, versions_of}
+use Rattle.serial_model.specs.declared.effect.Effect.{Effect}
+use Rattle.serial_model.specs.declared.end.End.{End}
+use Rattle.serial_model.specs.declared.end.End.TheVariants as ending
+use Rattle.serial_model.specs.declared.entry.Entry.TheVariants.{Run}
+use Rattle.serial_model.specs.declared.halt.Halt.TheVariants as halt
+use Rattle.serial_model.specs.declared.request.Request.TheVariants as request
+use Rattle.serial_model.specs.Standing.{Agrees, Start}
+use Rattle.serial_model.specs.State.{UnitState}
+use Rattle.serial_model.specs.Step.{answered, next_made, next_of, with_made}
+use Rattle.serial_model.specs.Task as outcome
+use Rattle.serial_model.specs.Task.{Around, Result, transaction}
+use Rattle.shared_world.proofs.Effects.{ArePrints, HasDoneLocally, done-locally, drop-nothing, no-actors, no-becoming, no-sends, prints, with_effects}
+use Rattle.shared_world.proofs.Gone.{SeenAs, go-machines, go-same, now-stays, reads-stay, seen-as, seen-stay, stayed}
+use Rattle.shared_world.proofs.Lists.{among-contains, named-among, names_of, none-there, over-read, values-all, values-so, values_of}
+use Rattle.shared_world.proofs.Live.{state-there}
+use Rattle.shared_world.proofs.Standing.{Grows, ref-committed, under-way}
+use Rattle.shared_world.proofs.States.{machines-same, same-pieces}
+use Rattle.shared_world.specs.declared.given.Given.{Given}
+use Rattle.shared_world.specs.rows.Attempts.{Commits}
+use Rattle.shared_world.specs.rows.Pieces.{Ends}
+use Rattle.shared_world.specs.rows.Tasks.{EndGives}
+use Rattle.shared_world.specs.Shared.{Shared, finished_at, is_going, ref_now, state_at, unit_state}
+use Rattle.shared_world.specs.Stands.{IsMachine, IsUnderWay, Stands, start_of}
+use Rattle.task_fork_join.proofs.Ends.{ends_are_of_transactions}
+use Rattle.task_fork_join.specs.Attempt.{Attempt, end_at, outcome_of, tasks_of, tree_task}
+use Rattle.task_fork_join.specs.declared.task.Task.{Task}
+use Rattle.task_fork_join.specs.declared.task_end.TaskEnd.{TaskEnd}
+use Rattle.task_fork_join.specs.declared.task_end.TaskEnd.TheVariants as end
+use Rattle.task_fork_join.specs.Running.{EndsAs}
+use Rattle.txn_commit.specs.Conflict.{IsUnchanged}
+use Rattle.txn_snapshot.specs.SnapshotAnswer.{snapshot_of}
+use Rattle.txn_snapshot.specs.SnapshotTask.{SnapshotTask}
+use Rattle.ref_store.proofs.VersionLaws.{late_at}
+use Rattle.unit_table.specs.Board.{unit_at}
+use Rattle.unit_table.specs.declared.record.Record.{Record}
+use Rattle.unit_table.specs.declared.unit.Unit.{Unit}
+use Rattle.value_core.proofs.NamedLaws.{same_name-equal, same_name-itself}
+use Rattle.value_core.proofs.NamedViews.{named-each_as}
+use Rattle.value_core.specs.declared.code.Code.{Code}
+use Rattle.value_core.specs.declared.value.Value.{Value}
+use Rattle.value_core.specs.Named.{Name, Named, Rises, is_among, named, same_name}
+use Rattle.value_core.specs.Place.{Spot}
+use Rattle.world_model.proofs.Kept.{gave-keeps}
+use Rattle.world_model.specs.Gave as row
+use Rattle.world_model.specs.IsWorld.{IsWorld}
+use Rattle.world_model.specs.rows.Attempts.{Learns, learned, local, with_attempt}
+use Rattle.world_model.specs.rows.Commits.{IsOver, committed as committed_world, effects_bytes, effects_unit}
+use Rattle.world_model.specs.rows.Endings as end_row
+use Rattle.world_model.specs.rows.Endings.{EndsRun, ended_by}
+use Rattle.world_model.specs.StandsFor.{AttemptStands, IsAttempt, IsEnd}
+use Rattle.world_model.specs.World as world
+use Rattle.world_model.specs.World.{AttemptEnd, LiveUnit, World, attempt_sends, held_sends, kept_sends, line, sends, still, with_at}
+use Rattle.world_model.specs.Message.{tentative, unsettled}
+use Rattle.serial_model.specs.Log.{Log}
+use Rattle.unit_table.specs.Piece.{unit_in}
+
+-- a ref with no version above the snapshot reads now as it does there
+unchanged-reads : (versions : Named (List Version)) (snapshot : ℕ) (r : Name) → IsUnchanged versions snapshot r → ref_now versions r ≡ snapshot_of versions snapshot r
+unchanged-reads versions snapshot r is = sym (ap (option_map (λ (v : Version). v.value)) (late_at snapshot (versions_of versions r) is))
+
+module _ (old : Shared) (st : Stands old) (on_going : old.end ≡ None) (u : Name) (x : Unit) (tree : Attempt) (unit_there : unit_at old.board u ≡ Some x) (there : named u old.attempts ≡ Some tree)
+    (ended : TaskEnd) (is_ended : end_at tree ≡ Some ended) (valid : All (IsUnchanged old.versions tree.snapshot) tree.reads) (effects : List Effect) (writes : Named Value) (are_prints : ArePrints effects)
+    (so : (v : Value) → outcome_of ended ≡ outcome.Value v → (t : Task) → named tree.root tree.tasks ≡ Some t → (t.log.log.writes ≡ writes) × (t.log.log.effects ≡ effects)) where
+  abbrev w : World
+  w = st.world
+
+  abbrev unit : UnitState
+  unit = unit_state x
+
+  going : is_going old.end ≡ true
+  going = ap is_going on_going
+
+  seen : SeenAs old w u tree
+  seen = seen-as old st going u tree there
+
+  abbrev tried : world.Attempt
+  tried = seen.tried
+
+  way : IsUnderWay old u tree
+  way = st.attempts going u tree there
+
+  same_unit : way.unit ≡ unit
+  same_unit = let both : Some way.unit ≡ Some unit = sym way.there ∙ state-there old.board u x unit_there in cc
+
+  live : w.units u ≡ Some (still unit)
+  live = st.seen.units u ∙ ap (option_map still) (state-there old.board u x unit_there)
+
+  attempt : IsAttempt old.setup u (still unit) tried
+  attempt = subst (λ found. AttemptStands old.setup u (Some (still unit)) found) seen.there (subst (λ found. AttemptStands old.setup u found (w.attempts u)) live (st.is_world.stands.attempts u))
+
+  asks : next_of old.setup unit ≡ halt.Ask (request.Dosync way.body way.values) way.at
+  asks = subst (λ (k : UnitState). next_of old.setup k ≡ halt.Ask (request.Dosync way.body way.values) way.at) same_unit way.asks
+
+  same_body : tried.body ≡ way.body
+  same_body = let both = sym attempt.asks ∙ asks in cc
+
+  same_values : tried.values ≡ way.values
+  same_values = let both = sym attempt.asks ∙ asks in cc
+
+  same_at : tried.at ≡ way.at
+  same_at = let both = sym attempt.asks ∙ asks in cc
+
+  -- the values of the units that are finished
+  abbrev names : List Name
+  names = names_of old.board.records
+
+  abbrev joined : List (Name × Value)
+  joined = values_of (finished_at old.board) names
+
+  finished-joined : (f : Name) (v : Value) → finished_at old.board f ≡ Some v → Contains joined (f, v)
+  finished-joined f v is = values-all (finished_at old.board) names f v (among (named f old.board.records) refl) is
+    where
+      among : (found : Option Record) → named f old.board.records ≡ found → is_among f names ≡ true
+      among None none = let no : None ≡ Some v = sym (nothing none) ∙ is in cc
+        where
+          nothing : named f old.board.records ≡ None → finished_at old.board f ≡ None
+          nothing none = ap (λ (found : Option Record). option_and_then (λ (k : UnitState). k.finished) (option_map unit_state (option_and_then unit_in (option_and_then (λ (r : Record). r.piece) found)))) none
+      among (Some r) some = named-among f r old.board.records some
+
+  abbrev result : AttemptEnd
+  result = record { outcome = outcome_of ended; writes = writes }
+
+  abbrev tried1 : world.Attempt
+  tried1 = with_effects tried effects
+
+  abbrev tried2 : world.Attempt
+  tried2 = learned tried1 tree.reads joined (Some result)
+
+  abbrev w1 : World
+  w1 = local w u tried effects
+
+  abbrev w2 : World
+  w2 = with_attempt w1 u tried2
+
+  did : HasDoneLocally w u tried effects w1
+  did = done-locally w u tried effects are_prints seen.there seen.is.ended
+
+  is_w1 : IsWorld old.setup w1
+  is_w1 = gave-keeps old.setup st.formed w w1 None st.is_world (row.goes_on u tried effects seen.there)
+
+  units1 : (q : Name) → w1.units q ≡ w.units q
+  units1 q = ap (λ (k : World). k.units q) did.rest
+
+  root_task : (t : Task) × (named tree.root tree.tasks ≡ Some t)
+  root_task = on (named tree.root tree.tasks) refl
+    where
+      on : (found : Option Task) → named tree.root tree.tasks ≡ found → (t : Task) × (named tree.root tree.tasks ≡ Some t)
+      on (Some t) is = (t, is)
+      on None is =
+          let no : false ≡ true = sym (ap is_some (named-each_as tree_task tree.root tree.tasks ∙ ap (option_map tree_task) is)) ∙ ap (λ n. is_some (named n (tasks_of tree.tasks))) way.runs.root ∙ way.runs.runs.rooted in cc
+
+  -- the attempt ended as its transaction does
+  is_end : IsEnd old.setup unit.actor tried2 (Some result)
+  is_end around agrees = record {
+    outcome = transacted (λ (k : Result). k.outcome ≡ outcome_of ended) ends.outcome;
+    writes = λ v value. transacted (λ (k : Result). k.log.writes ≡ writes) (ap (λ (k : Log). k.writes) logs ∙ (so v value root_task.0 root_task.1).0);
+    effects_same = λ v value. transacted (λ (k : Result). k.log.effects ≡ tried.effects ++ effects) (ap (λ (k : Log). k.effects) logs ∙ (so v value root_task.0 root_task.1).1 ∙ ap (λ es. es ++ effects) (sym seen.is.effects));
+  }
+    where
+      start : Start
+      start = start_of old.setup u way.unit way.body way.values
+
+      agree : Agrees start (snapshot_of old.versions tree.snapshot) tree.reads (finished_at old.board) around
+      agree = record {
+        program = agrees.program;
+        fuel = agrees.fuel;
+        actor = agrees.actor ∙ ap (λ (k : UnitState). k.actor) (sym same_unit);
+        store = λ r among. agrees.reads r (among-contains r tree.reads among) ∙ seen.is.store r;
+        finished_so = λ f v is. agrees.joined f v (finished-joined f v is);
+      }
+
+      ends : EndsAs start way.at tree ended around
+      ends = ends_are_of_transactions start way.at (snapshot_of old.versions tree.snapshot) (finished_at old.board) tree ended way.runs is_ended around agree
+
+      logs : (transaction around start.name way.at way.body way.values).log ≡ root_task.0.log.log
+      logs = ends.log root_task.0 root_task.1
+
+      transacted : (P : Result → Type 0) → P (transaction around start.name way.at way.body way.values) → P (transaction around tried.root tried.at tried.body tried.values)
+      transacted P is =
+          subst (λ n. P (transaction around n tried.at tried.body tried.values)) (ap (next_made u) same_unit ∙ sym attempt.root)
+          (subst (λ s. P (transaction around start.name s tried.body tried.values)) (sym same_at)
+          (subst (λ b. P (transaction around start.name way.at b tried.values)) (sym same_body)
+          (subst (λ vs. P (transaction around start.name way.at way.body vs)) (sym same_values) is)))
+
+  learns : Learns old.setup w1 u (still unit) tried1 tree.reads joined (Some result)
+  learns = record {
+    there = units1 u ∙ live;
+    attempt = did.attempt;
+    stays = λ r has. absurd (none-there r (subst (λ all. Contains all r) seen.is.reads has));
+    over = λ f v has. inr (finished f v (values-so (finished_at old.board) names f v has));
+    end = is_end;
+  }
+    where
+      finished : (f : Name) (v : Value) → finished_at old.board f ≡ Some v → (y : LiveUnit) × (w1.units f ≡ Some y) × (y.takes ≡ None) × (y.from.finished ≡ Some v)
+      finished f v is = on (state_at old.board f) refl is
+        where
+          on : (found : Option UnitState) → state_at old.board f ≡ found → option_and_then (λ (k : UnitState). k.finished) found ≡ Some v
+              → (y : LiveUnit) × (w1.units f ≡ Some y) × (y.takes ≡ None) × (y.from.finished ≡ Some v)
+          on None e so = cc
+          on (Some k) e so = (still k, units1 f ∙ st.seen.units f ∙ ap (option_map still) e, refl, so)
+
+  is_w2 : IsWorld old.setup w2
+  is_w2 = gave-keeps old.setup st.formed w1 w2 None is_w1 (row.learns u (still unit) tried1 tree.reads joined (Some result) learns)
+
+  over : IsOver old.setup w2 u (still unit) tried2 result
+  over = record {
+    going = ap (λ (k : World). k.end) did.rest ∙ st.seen.end ∙ on_going;
+    there = units1 u ∙ live;
+    takes = refl;
+    held = refl;
+    attempt = ap (λ c. cond c (Some tried2) (w1.attempts u)) (same_name-itself u);
+    ended = refl;
+    valid = λ r has.
+        ap (λ (k : World). k.refs r) did.rest ∙ st.seen.refs r ∙ unchanged-reads old.versions tree.snapshot r (unchanged r has) ∙ sym (seen.is.store r);
+  }
+    where
+      unchanged : (r : Name) → Contains tree.reads r → IsUnchanged old.versions tree.snapshot r
+      unchanged r has = subst (IsUnchanged old.versions tree.snapshot) has.2 (valid has.0 r has.1)
+
+  -- the run ends by the attempt
+  ends-run : (e : End) (found : Given) (new : Shared) → Ends old u e found new → EndsRun old.setup w2 (Run u) e → Stands new
+  ends-run e found new r end_so = subst Stands (sym r.others) (record {
+    formed = st.formed;
+    world = ended_by w2 (Run u) e;
+    is_world = gave-keeps old.setup st.formed w2 (ended_by w2 (Run u) e) (Some (Run u)) is_w2 (row.ends (Run u) e end_so);
+    seen = record {
+      history = ap (λ (k : World). k.history ++ Run u ∷ []) did.rest ∙ ap (λ h. h ++ Run u ∷ []) st.seen.history;
+      refs = λ q. ap (λ (k : World). k.refs q) did.rest ∙ st.seen.refs q;
+      units = λ q. units1 q ∙ st.seen.units q ∙ sym (ap (option_map still) (same-pieces old.board new.board r.pieces q));
+      actors = λ a. ap (λ (k : World). k.actors a) did.rest ∙ st.seen.actors a;
+      taken = λ a. ap (λ (k : World). k.taken a) did.rest ∙ st.seen.taken a;
+      mails = λ a. ap (λ f. f a) did.mails ∙ st.seen.mails a;
+      attempts = λ g v. cc;
+      bytes = ap (λ (k : World). k.bytes) did.rest ∙ st.seen.bytes;
+      made = ap (λ (k : World). k.made) did.rest ∙ st.seen.made;
+      end = refl;
+    };
+    machines = machines-same (IsMachine old.setup) old.board new.board r.pieces st.machines;
+    attempts = λ g v t is. cc;
+    numbers = λ q k d in_range. let long = length-append old.history (Run u ∷ []) in let below = st.numbers q k d in_range in omega (arith, long, below);
+  })
+
+  -- the attempt commits
+  module _ (v : Value) (found : Given) (new : Shared) (is_value : ended ≡ end.Value v) (r : Commits old u x tree v found new) (same_writes : r.log.log.writes ≡ writes) (same_effects : r.log.log.effects ≡ effects) where
+    abbrev versions : Named (List Version)
+    versions = committed old.versions r.log.log.writes (suc (length old.history))
+
+    rises : Rises r.log.log.writes
+    rises = r.done.rises
+
+    abbrev after : Shared
+    after = record old { history = old.history ++ Run u ∷ []; versions = new.versions; attempts = new.attempts; bytes = old.bytes ++ effects_bytes r.log.log.effects; board = new.board }
+
+    abbrev w3 : World
+    w3 = committed_world w2 u (still unit) tried2 result v
+
+    all_effects : tried.effects ++ effects ≡ r.log.log.effects
+    all_effects = ap (λ es. es ++ effects) seen.is.effects ∙ sym same_effects
+
+    all_prints : ArePrints (tried.effects ++ effects)
+    all_prints = subst ArePrints (ap (λ es. es ++ effects) (sym seen.is.effects)) are_prints
+
+    longer : length old.history ≤ length (old.history ++ Run u ∷ [])
+    longer = let long = length-append old.history (Run u ∷ []) in omega (arith, long)
+
+    refs : (q : Name) → w3.refs q ≡ ref_now new.versions q
+    refs q =
+        over-read writes w2.refs (subst Rises same_writes rises) q
+        ∙ ap (λ found. option_or (named q writes) found) (ap (λ (k : World). k.refs q) did.rest ∙ st.seen.refs q)
+        ∙ ap (λ (ws : Named Value). option_or (named q ws) (ref_now old.versions q)) (sym same_writes)
+        ∙ sym (ref-committed old.versions r.log.log.writes (suc (length old.history)) rises q)
+        ∙ sym (now-stays old st going u new.attempts r.goes.attempts versions new.versions r.versions q)
+
+    becomes : effects_unit (tried.effects ++ effects) unit ≡ unit
+    becomes = no-becoming (tried.effects ++ effects) all_prints unit
+
+    states : (q : Name) → state_at new.board q ≡ cond (same_name q u) (Some (answered (with_made unit) v)) (state_at old.board q)
+    states q = go-same u x r.unit tree old.board new.board unit_there r.goes.tasks (answered (with_made unit) v) r.stands.state q
+
+    units : (q : Name) → w3.units q ≡ option_map still (state_at new.board q)
+    units q = on (same_name q u) (states q)
+      where
+        on : (c : Bool) → state_at new.board q ≡ cond c (Some (answered (with_made unit) v)) (state_at old.board q)
+            → cond c (Some (still (answered (with_made (effects_unit (tried.effects ++ effects) unit)) v))) (w2.units q) ≡ option_map still (state_at new.board q)
+        on true e = ap (λ k. Some (still (answered (with_made k) v))) becomes ∙ sym (ap (option_map still) e)
+        on false e = units1 q ∙ st.seen.units q ∙ sym (ap (option_map still) e)
+
+    mails : (a : Name) → w3.mails a ≡ []
+    mails a = ap (settle (same_name tried.root)) (empty ∙ ap (λ ms. ms ++ []) nothing)
+      where
+        nothing : w2.mails a ≡ []
+        nothing = ap (λ f. f a) did.mails ∙ st.seen.mails a
+
+        no-send : sends w2 u a ≡ []
+        no-send =
+            ap (λ found. held_sends u a found ++ attempt_sends u a (w2.attempts u)) (units1 u ∙ live)
+            ∙ ap (attempt_sends u a) (ap (λ c. cond c (Some tried2) (w1.attempts u)) (same_name-itself u))
+            ∙ ap (map (tentative u tried.root)) (no-sends (tried.effects ++ effects) all_prints a)
+
+        empty : w2.mails a ++ kept_sends w2 u a ≡ w2.mails a ++ []
+        empty =
+            ap (λ ms. w2.mails a ++ drop (length (unsettled u (line w2 a))) ms) no-send
+            ∙ ap (λ ms. w2.mails a ++ ms) (drop-nothing (length (unsettled u (line w2 a))))
+
+    others : (k : Name) → (k ≡ u → ⊥) → with_at w2.attempts u None k ≡ w.attempts k
+    others k other = on (same_name k u) refl
+      where
+        on : (c : Bool) → same_name k u ≡ c → cond c None (cond c (Some tried2) (w1.attempts k)) ≡ w.attempts k
+        on true e = absurd (other (same_name-equal k u e))
+        on false e = did.others k e
+
+    before : (k : Name) (t : Attempt) → named k new.attempts ≡ Some t → (q : Name) → snapshot_of versions t.snapshot q ≡ snapshot_of old.versions t.snapshot q
+    before k t is q =
+        let stay = stayed old st going u new.attempts r.goes.attempts k t is in
+        let within = (st.attempts going k t stay.1).within in
+        read_below old.versions r.log.log.writes (suc (length old.history)) t.snapshot rises (omega (arith, within)) q
+
+    apart : (k : Name) → (k ≡ u → ⊥) → state_at new.board k ≡ state_at old.board k
+    apart k other = states k ∙ on (same_name k u) refl
+      where
+        on : (c : Bool) → same_name k u ≡ c → cond c (Some (answered (with_made unit) v)) (state_at old.board k) ≡ state_at old.board k
+        on true e = absurd (other (same_name-equal k u e))
+        on false e = refl
+
+    grows : Grows (finished_at old.board) (finished_at new.board)
+    grows f val is = on (same_name f u) refl (states f)
+      where
+        on : (c : Bool) → same_name f u ≡ c → state_at new.board f ≡ cond c (Some (answered (with_made unit) v)) (state_at old.board f) → finished_at new.board f ≡ Some val
+        on true e so =
+            let no : None ≡ Some val = sym attempt.unfinished ∙ sym (ap (option_and_then (λ (k : UnitState). k.finished)) (ap (state_at old.board) (same_name-equal f u e) ∙ state-there old.board u x unit_there)) ∙ is in cc
+        on false e so = ap (option_and_then (λ (k : UnitState). k.finished)) so ∙ is
+
+    above : IsAbove (suc (length (old.history ++ Run u ∷ []))) versions
+    above =
+        let long = length-append old.history (Run u ∷ []) in
+        above_committed old.versions versions r.log.log.writes (suc (length old.history)) rises refl st.numbers (suc (length (old.history ++ Run u ∷ []))) (omega (arith, long))
+
+    commits : Stands new
+    commits = subst Stands (sym r.others) (record {
+      formed = st.formed;
+      world = w3;
+      is_world = gave-keeps old.setup st.formed w2 w3 (Some (Run u)) is_w2 (row.commits u (still unit) tried2 result v (record { over = over; value = ap outcome_of is_value }));
+      seen = record {
+        history = ap (λ (k : World). k.history ++ Run u ∷ []) did.rest ∙ ap (λ h. h ++ Run u ∷ []) st.seen.history;
+        refs = refs;
+        units = units;
+        actors = λ a. ap (λ f. f a) (no-actors (tried.effects ++ effects) all_prints w2.actors) ∙ ap (λ (k : World). k.actors a) did.rest ∙ st.seen.actors a;
+        taken = λ a. ap (settle (same_name tried.root)) (ap (λ (k : World). k.taken a) did.rest ∙ st.seen.taken a);
+        mails = mails;
+        attempts = λ g k. seen-stay old st going u new.attempts r.goes.attempts versions new.versions before r.versions (λ q. with_at w2.attempts u None q) others (ap (λ c. cond c None (w2.attempts u)) (same_name-itself u)) k;
+        bytes = ap (λ (k : World). k.bytes ++ effects_bytes (tried.effects ++ effects)) did.rest ∙ ap (λ b. b ++ effects_bytes (tried.effects ++ effects)) st.seen.bytes ∙ ap (λ es. old.bytes ++ effects_bytes es) all_effects;
+        made = ap (λ (k : World). k.made) did.rest ∙ st.seen.made;
+        end = ap (λ (k : World). k.end) did.rest ∙ st.seen.end;
+      };
+      machines = go-machines (IsMachine old.setup) u r.unit tree old.board new.board r.stands.machine r.goes.tasks st.machines;
+      attempts = λ g k t is.
+          let stay = stayed old st going u new.attempts r.goes.attempts k t is in
+          under-way old after k t refl (apart k stay.0) (λ q. reads-stay old st going u new.attempts r.goes.attempts versions new.versions r.versions k t is q ∙ before k t is q) grows longer (st.attempts going k t stay.1);
+      numbers = above_pruned r.versions.live versions new.versions r.versions.pruned (suc (length (old.history ++ Run u ∷ []))) above;
+    })
+
+-- what a valid attempt comes to
+module _ (old : Shared) (st : Stands old) (on_going : old.end ≡ None) (u : Name) (x : Unit) (tree : Attempt) (unit_there : unit_at old.board u ≡ Some x) (there : named u old.attempts ≡ Some tree)
+    (valid : All (IsUnchanged old.versions tree.snapshot) tree.reads) where
+  -- without a value nothing is done
+  module _ (ended : TaskEnd) (is_ended : end_at tree ≡ Some ended) (no_value : (v : Value) → outcome_of ended ≡ outcome.Value v → ⊥) where
+    nothing : (v : Value) → outcome_of ended ≡ outcome.Value v → (t : Task) → named tree.root tree.tasks ≡ Some t → (t.log.log.writes ≡ []) × (t.log.log.effects ≡ [])
+    nothing v is t there = absurd (no_value v is)
+
+    pub failed : (failed : Code) (place : Spot) → outcome_of ended ≡ outcome.Fault failed place → (found : Given) (new : Shared) → Ends old u (ending.Fault failed place u) found new → Stands new
+    failed code place is found new r =
+        ends-run old st on_going u x tree unit_there there ended is_ended valid [] [] tt nothing (ending.Fault code place u) found new r
+        (end_row.attempt_fault u (still (unit_state x)) _ _ code place (over old st on_going u x tree unit_there there ended is_ended valid [] [] tt nothing) is)
+
+    pub spent : outcome_of ended ≡ outcome.Spent → (found : Given) (new : Shared) → Ends old u (ending.Spent u) found new → Stands new
+    spent is found new r =
+        ends-run old st on_going u x tree unit_there there ended is_ended valid [] [] tt nothing (ending.Spent u) found new r
+        (end_row.attempt_spent u (still (unit_state x)) _ _ (over old st on_going u x tree unit_there there ended is_ended valid [] [] tt nothing) is)
+
+  pub end-keeps : (ended : TaskEnd) → end_at tree ≡ Some ended → (found : Given) (new : Shared) → EndGives old u x tree ended found new → Stands new
+  end-keeps (end.Fault code place) is found new r = failed (end.Fault code place) is (λ v e. cc) code place refl found new r
+  end-keeps end.Spent is found new r = spent end.Spent is (λ v e. cc) refl found new r
+  end-keeps (end.Value v) is found new r =
+      commits old st on_going u x tree unit_there there (end.Value v) is valid r.log.log.effects r.log.log.writes (prints r.log.log.effects r.done.printed) done v found new refl r refl refl
+    where
+      done : (k : Value) → outcome.Value v ≡ outcome.Value k → (t : Task) → named tree.root tree.tasks ≡ Some t → (t.log.log.writes ≡ r.log.log.writes) × (t.log.log.effects ≡ r.log.log.effects)
+      done k e t is_t =
+          let same : r.log ≡ t.log = subst (λ found. IfSome found (λ (k : Task). r.log ≡ k.log)) is_t r.done.root in
+          (ap (λ (k : SnapshotTask). k.log.writes) (sym same), ap (λ (k : SnapshotTask). k.log.effects) (sym same))

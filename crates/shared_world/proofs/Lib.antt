@@ -1,0 +1,12 @@
+pub mod Begins
+pub mod Commits
+pub mod Effects
+pub mod Gone
+pub mod Kept
+pub mod Lists
+pub mod Live
+pub mod Opens
+pub mod Standing
+pub mod States
+pub mod Steps
+pub mod Units

@@ -1,0 +1,56 @@
+-- What a result that is given back answers and changes.
+use Rattle.std.specs.Prelude.{◌≡◌, Bool, None, Some}
+use Rattle.serial_model.specs.Step.{next_of}
+use Rattle.shared_world.specs.declared.given.Given.{Given}
+use Rattle.shared_world.specs.declared.given.Given.TheVariants as given
+use Rattle.shared_world.specs.Returned.{IsLive, Returned}
+use Rattle.shared_world.specs.rows.Pieces.{ClaimsEnd, piece_or_task}
+use Rattle.shared_world.specs.rows.Tasks.{TaskGives}
+use Rattle.shared_world.specs.rows.Units.{UnitGives}
+use Rattle.shared_world.specs.Shared.{claimed, Shared, unit_state}
+use Rattle.task_fork_join.specs.Attempt.{Attempt, machine_of}
+use Rattle.unit_table.specs.Board.{SamePieces, piece_at, unit_at}
+use Rattle.unit_table.specs.declared.mark.Mark.{Mark}
+use Rattle.unit_table.specs.declared.piece.Piece.TheVariants as piece
+use Rattle.unit_table.specs.declared.unit.Unit.{Unit}
+use Rattle.value_core.specs.declared.ticket.Ticket.{Ticket}
+use Rattle.value_core.specs.Named.{Name, named, same_name}
+
+-- The claim of that ticket is out no more, and else all stays.
+pub record IsUnclaimed (ticket : Ticket) (old new : Shared) : Type 0 where
+  pub pieces : SamePieces old.board new.board
+  pub here : claimed new ticket ≡ None
+  pub others : (other : Ticket) → (other ≡ ticket → ⊥) → claimed new other ≡ claimed old other
+  pub rest : new ≡ record old { board = new.board }
+
+-- a unit
+pub record GaveUnit (old : Shared) (name : Name) (found : Given) (new : Shared) : Type 0 where
+  pub unit : Unit
+  pub there : unit_at old.board name ≡ Some unit
+  pub gives : UnitGives old name unit (next_of old.setup (unit_state unit)) found new
+  pub claims : ClaimsEnd (λ q. same_name q name) old new
+
+-- whose claims end: the task's, and where the attempt goes those of all its tasks
+abbrev pub gone_with : Given → Name → Attempt → Name → Bool
+gone_with (given.Settled entry) task tree = piece_or_task task tree
+gone_with (given.Aborted unit name version) task tree = piece_or_task task tree
+gone_with found task tree = λ q. same_name q task
+
+-- a task of the attempt of a unit
+pub record GaveTask (old : Shared) (name : Name) (found : Given) (new : Shared) : Type 0 where
+  pub owner : Name
+  pub unit : Unit
+  pub tree : Attempt
+  pub mark : Mark
+  pub there : piece_at old.board name ≡ Some (piece.Task mark)
+  pub of : named name old.owners ≡ Some owner
+  pub unit_there : unit_at old.board owner ≡ Some unit
+  pub attempt : named owner old.attempts ≡ Some tree
+  pub gives : TaskGives old owner unit name tree (machine_of tree name) found new
+  pub claims : ClaimsEnd (gone_with found name tree) old new
+
+-- What the world answers and is afterwards, for a result.
+pub data Gave (old : Shared) (result : Returned) (found : Given) (new : Shared) : Type 0 where
+  stale : ((name : Name) → IsLive old result name → ⊥) → found ≡ given.Stale → IsUnclaimed result.ticket old new → Gave old result found new
+  unit : (name : Name) → IsLive old result name → GaveUnit old name found new → Gave old result found new
+  task : (name : Name) → IsLive old result name → GaveTask old name found new → Gave old result found new

@@ -1,0 +1,17 @@
+-- What holds of every world as it is kept.
+use Rattle.core_syntax.specs.WellFormed.{IsWellFormed}
+use Rattle.serial_model.specs.State.{Setup}
+use Rattle.shared_world.specs.declared.given.Given.{Given}
+use Rattle.shared_world.specs.Gave.{Gave}
+use Rattle.shared_world.specs.Opening.{IsOpening}
+use Rattle.shared_world.specs.Returned.{Returned}
+use Rattle.shared_world.specs.Shared.{Shared}
+use Rattle.shared_world.specs.Stands.{Stands}
+
+-- whatever a result comes to, what is kept stands for the replay of its history afterwards
+abbrev pub GaveKeeps : Type 0
+GaveKeeps = (old new : Shared) (result : Returned) (found : Given) → Stands old → Gave old result found new → Stands new
+
+-- main alone stands for the empty history
+abbrev pub OpeningStands : Type 0
+OpeningStands = (setup : Setup) (s : Shared) → IsWellFormed setup.program → IsOpening setup s → Stands s

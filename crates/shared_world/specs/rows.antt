@@ -1,0 +1,4 @@
+pub mod Attempts
+pub mod Pieces
+pub mod Tasks
+pub mod Units

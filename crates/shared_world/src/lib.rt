@@ -1,0 +1,9 @@
+//! The world that the threads share, as it is kept: what it stands for, and what a result that is given back answers and
+//! changes. No code runs here but that of the answers' type.
+#![tactic(auto)]
+
+mod given;
+mod laws;
+
+pub use given::Given;
+pub use laws::{gave_keeps, opening_stands};
