@@ -70,22 +70,28 @@ fn number_of(
     }
 }
 
+// A node, its fuel, and the number that it comes to within that.
+type Row = (u32, u64, Option<i64>);
+
+fn come_to(alloc: Global, program: &Program, rows: &[Row]) -> Result<bool, AllocError> {
+    for (index, fuel, number) in rows {
+        if number_of(alloc, program, *index, *fuel)? != *number {
+            return Ok(false);
+        }
+    }
+    Ok(true)
+}
+
 #[test]
 fn nodes_come_to_their_values(rt: HostRuntime) -> Result<(), Fail> {
-    let alloc = rt.alloc();
-    let program = sample(alloc)?;
-    for (index, fuel, number) in [
+    let rows = [
         (2, 3, Some(3)),
         (2, 2, None),
         (3, 3, Some(1)),
         (5, 3, Some(1)),
-    ] {
-        assert_eq!(rt;
-            number_of(alloc, &program, index, fuel)?,
-            number,
-            "{index} {fuel}"
-        );
-    }
+    ];
+    let program = sample(rt.alloc())?;
+    assert!(rt; come_to(rt.alloc(), &program, &rows)?);
     Ok(())
 }
 
@@ -107,19 +113,64 @@ fn printed(
     }
 }
 
+fn prints_one(alloc: Global, program: &Program, machine: &mut Machine) -> Result<bool, AllocError>
+    requires { IsOf program.now machine.old }
+    ensures { IfOk result (λ _. IsOf program.now machine.new) }
+{
+    match printed(alloc, program, machine)? {
+        Some(line) => Ok(line.items() == b"1\n".as_slice()),
+        None => Ok(false),
+    }
+}
+
+fn gives_nil(alloc: Global, program: &Program, machine: &mut Machine) -> Result<bool, AllocError>
+    requires { IsOf program.now machine.old }
+{
+    match machine.run_to_ask(alloc, program)? {
+        Halt::Value(Value::Nil) => Ok(true),
+        _ => Ok(false),
+    }
+}
+
+fn is_same_as_its_copy(alloc: Global, machine: &Machine) -> Result<bool, AllocError> {
+    let copy = machine.copy(alloc)?;
+    Ok(machine.same(&copy))
+}
+
+// Whether the machine prints and gives nil, and is the same as its copy and not as the one before.
+fn prints_and_goes_on(
+    alloc: Global,
+    program: &Program,
+    machine: &mut Machine,
+    before: &Machine,
+) -> Result<bool, AllocError>
+    requires { IsOf program.now machine.old }
+{
+    let prints = prints_one(alloc, program, machine)?;
+    let moves = !machine.same(before);
+    let copies = is_same_as_its_copy(alloc, machine)?;
+    Ok(prints && moves && copies && gives_nil(alloc, program, machine)?)
+}
+
+fn print_gives_nil(
+    alloc: Global,
+    program: &Program,
+    machine: &mut Machine,
+) -> Result<bool, AllocError>
+    requires { IsOf program.now machine.old }
+{
+    let before = machine.copy(alloc)?;
+    prints_and_goes_on(alloc, program, machine, &before)
+}
+
+fn println_gives_nil(alloc: Global, program: &Program) -> Result<bool, AllocError> {
+    let mut machine = machine_of(alloc, program, 6, 2)?;
+    print_gives_nil(alloc, program, &mut machine)
+}
+
 #[test]
 fn a_print_asks_and_gives_nil(rt: HostRuntime) -> Result<(), Fail> {
-    let alloc = rt.alloc();
-    let program = sample(alloc)?;
-    let mut machine = machine_of(alloc, &program, 6, 2)?;
-    let before = machine.copy(alloc)?;
-    match printed(alloc, &program, &mut machine)? {
-        Some(line) => assert_eq!(rt; line.items(), b"1\n".as_slice()),
-        None => assert!(rt; false, "no print"),
-    }
-    assert!(rt; !machine.same(&before));
-    assert!(rt; machine.same(&machine.copy(alloc)?));
-    let end = machine.run_to_ask(alloc, &program)?;
-    assert!(rt; matches!(end, Halt::Value(Value::Nil)));
+    let program = sample(rt.alloc())?;
+    assert!(rt; println_gives_nil(rt.alloc(), &program)?);
     Ok(())
 }
