@@ -118,10 +118,20 @@ fn is_behaviour(behaviour: &Behaviour, message: u32, body: u32) -> bool {
         && behaviour.body.index == body
 }
 
+// How many of the program's first nodes are as the rows say.
+fn nodes_that_are(program: &Program, rows: &[NodeRow]) -> usize {
+    for index in 0..=program.main().index {
+        match rows.get(index as usize) {
+            Some(row) if is_node(program, index, row) => {}
+            _ => return index as usize,
+        }
+    }
+    program.main().index as usize + 1
+}
+
 // What is built is read back, by a program that was moved as into a thread.
 #[test]
 fn nodes_are_read_back(rt: HostRuntime) -> Result<(), Fail> {
-    let program = moved(sample(rt.alloc())?);
     let rows: [NodeRow; 6] = [
         ("7", 8, None),
         ("local 0", 23, None),
@@ -130,44 +140,55 @@ fn nodes_are_read_back(rt: HostRuntime) -> Result<(), Fail> {
         ("spawn", 60, None),
         ("main", 1, Some(4)),
     ];
-    assert_eq!(rt; program.main().index as usize + 1, rows.len());
-    for index in 0..=program.main().index {
-        match rows.get(index as usize) {
-            Some(row) => assert!(rt; is_node(&program, index, row), "{index}"),
-            None => assert!(rt; false, "no such row"),
+    let program = moved(sample(rt.alloc())?);
+    assert_eq!(rt; nodes_that_are(&program, &rows), rows.len());
+    Ok(())
+}
+
+fn functions_are_so(program: &Program) -> bool {
+    for number in 0..program.functions() {
+        if !is_function(program.function(number), 11, 1, 1) {
+            return false;
         }
     }
-    Ok(())
+    program.functions() == 1
+}
+
+fn behaviours_are_so(program: &Program) -> bool {
+    for number in 0..program.behaviours() {
+        if !is_behaviour(program.behaviour(number), 1, 2) {
+            return false;
+        }
+    }
+    program.behaviours() == 1
 }
 
 #[test]
 fn functions_and_behaviours_are_read_back(rt: HostRuntime) -> Result<(), Fail> {
     let program = sample(rt.alloc())?;
-    assert_eq!(rt;
-        (program.functions(), program.behaviours(), program.globals()),
-        (1, 1, 1)
-    );
-    for number in 0..program.functions() {
-        assert!(rt; is_function(program.function(number), 11, 1, 1));
-    }
-    for number in 0..program.behaviours() {
-        assert!(rt; is_behaviour(program.behaviour(number), 1, 2));
-    }
+    assert!(rt; functions_are_so(&program));
+    assert!(rt; behaviours_are_so(&program));
+    assert_eq!(rt; program.globals(), 1);
     Ok(())
+}
+
+fn counts_to(builder: &mut Builder, number: u32) -> Result<bool, BuildNo> {
+    for index in 0..number {
+        if builder.push(Node::SelfActor, at(1))?.index != index {
+            return Ok(false);
+        }
+    }
+    Ok(true)
 }
 
 // The table takes 1,000,000 nodes and no more, and after a refusal it is as before.
 #[test]
 fn a_table_is_full(rt: HostRuntime) -> Result<(), Fail> {
     let mut builder = Builder::new(rt.alloc());
-    for index in 0..1_000_000u32 {
-        assert_eq!(rt; builder.push(Node::SelfActor, at(1))?.index, index);
-    }
+    assert!(rt; counts_to(&mut builder, 1_000_000)?);
     for _ in 0..2 {
-        match builder.push(Node::Nil, at(1)) {
-            Ok(_) => assert!(rt; false, "one node too many"),
-            Err(refusal) => assert_eq!(rt; refusal, BuildNo::TooManyNodes),
-        }
+        let refusal = builder.push(Node::Nil, at(1)).err();
+        assert_eq!(rt; refusal, Some(BuildNo::TooManyNodes));
     }
     Ok(())
 }
