@@ -1,7 +1,8 @@
-ghost use Rattle.std.specs.Prelude.{◌≡◌, [], ◌∷◌, IfOk};
+ghost use Rattle.std.specs.Prelude.{◌≡◌, ◌<◌, [], ◌∷◌, length, All, IfOk};
+ghost use Rattle.core_syntax.specs.WellFormed.{FunctionsBelow, BehavioursBelow};
 ghost use Rattle.eval_step.specs.Evaluation.{IsOf};
 
-use core_syntax::{Behaviour, BuildNo, Builder, Function, Node, NodeId, NodeIds, Program, Step};
+use core_syntax::{BuildNo, Builder, Function, Node, NodeId, NodeIds, Program};
 use eval_step::Machine;
 use serial_model::{Answer, Halt, Request};
 use std::alloc::{AllocError, Global};
@@ -20,27 +21,45 @@ fn two(alloc: Global, first: NodeId, second: NodeId) -> Result<NodeIds, AllocErr
     Seq::from_slice(alloc, [first, second].as_slice())
 }
 
-// (defn f [x] x) and, as the nodes 2, 3, 5 and 6, (+ 1 2), (if 1 1 2), (f 1) and (println 1).
-pub(crate) fn sample(alloc: Global) -> Result<Program, BuildNo> {
+// The nodes of the sample: as the nodes 2, 3, 5 and 6, (+ 1 2), (if 1 1 2), (f 1) and (println 1), and as 4 the body of f.
+fn push_nodes(alloc: Global, builder: &mut Builder) -> Result<(), BuildNo>
+    requires { builder.old ≡ [] }
+    ensures body { IfOk result (λ _. 4 < length builder.new) }
+    ensures functions { IfOk result (λ _. All (λ row. FunctionsBelow 1 row.node) builder.new) }
+    ensures behaviours { IfOk result (λ _. All (λ row. BehavioursBelow 0 row.node) builder.new) }
+{
     let at = Place::new(1, 1);
-    let mut builder = Builder::new(alloc);
     let first = builder.push(Node::Int(1), at)?;
     let second = builder.push(Node::Int(2), at)?;
     builder.push(Node::Op(Op::Add, two(alloc, first, second)?), at)?;
     builder.push(Node::If(first, first, second), at)?;
-    let body = builder.push(Node::Local(0), at)?;
+    builder.push(Node::Local(0), at)?;
     let called = Node::Call(0, Seq::new(alloc), one(alloc, first)?);
     builder.push(called, at)?;
     builder.push(Node::Println(one(alloc, first)?), at)?;
-    let functions = [Function { at, takes: 1, body }];
-    let steps: [Step; 0] = [];
-    let behaviours: [Behaviour; 0] = [];
-    Ok(builder.finish(
-        Seq::from_slice(alloc, steps.as_slice())?,
-        Seq::from_slice(alloc, functions.as_slice())?,
-        1,
-        Seq::from_slice(alloc, behaviours.as_slice())?,
-    )?)
+    Ok(())
+}
+
+// The program of these nodes, with f as its one function.
+fn finished(alloc: Global, builder: Builder) -> Result<Program, AllocError>
+    requires body { 4 < length builder }
+    requires functions { All (λ row. FunctionsBelow 1 row.node) builder }
+    requires behaviours { All (λ row. BehavioursBelow 0 row.node) builder }
+{
+    let function = Function {
+        at: Place::new(1, 1),
+        takes: 1,
+        body: NodeId { index: 4 },
+    };
+    let functions = Seq::from_slice(alloc, [function].as_slice())?;
+    builder.finish(Seq::new(alloc), functions, 1, Seq::new(alloc))
+}
+
+// The program (defn f [x] x), with the nodes of some expressions more.
+pub(crate) fn sample(alloc: Global) -> Result<Program, BuildNo> {
+    let mut builder = Builder::new(alloc);
+    push_nodes(alloc, &mut builder)?;
+    Ok(finished(alloc, builder)?)
 }
 
 // A machine of the node with that index, or of main where there is none.

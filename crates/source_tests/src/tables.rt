@@ -1,4 +1,5 @@
-ghost use Rattle.std.specs.Prelude.{◌≡◌, ◌<◌, ◌≤◌, [], ◌∷◌, length, IfOk};
+ghost use Rattle.std.specs.Prelude.{◌≡◌, ◌<◌, ◌≤◌, [], ◌∷◌, length, All, IfOk};
+ghost use Rattle.core_syntax.specs.WellFormed.{BehavioursBelow, FunctionsBelow, IsTurnAt};
 
 use core_syntax::{Behaviour, BuildNo, Builder, Function, Node, NodeId, NodeIds, Program, Step};
 use std::alloc::{AllocError, Global};
@@ -19,55 +20,71 @@ fn one(alloc: Global, id: NodeId) -> Result<NodeIds, AllocError>
     Seq::from_slice(alloc, [id].as_slice())
 }
 
-// (def n 7) (defn f [x] x) (def b (behavior [] [m] m)) (f n) (spawn b)
-fn sample(alloc: Global) -> Result<Program, BuildNo> {
-    let mut builder = Builder::new(alloc);
+// The nodes of the sample: 7, the body of f, the turn of b, and the two expressions.
+fn push_nodes(alloc: Global, builder: &mut Builder) -> Result<(), BuildNo>
+    requires { builder.old ≡ [] }
+    ensures all { IfOk result (λ _. 4 < length builder.new) }
+    ensures turn { IfOk result (λ _. IsTurnAt builder.new (record { index = 2 })) }
+    ensures functions { IfOk result (λ _. All (λ row. FunctionsBelow 1 row.node) builder.new) }
+    ensures behaviours { IfOk result (λ _. All (λ row. BehavioursBelow 1 row.node) builder.new) }
+{
     let seven = builder.push(Node::Int(7), at(8))?;
     let local = builder.push(Node::Local(0), at(23))?;
-    let turn = builder.push(Node::Turn(1, local), at(33))?;
+    builder.push(Node::Turn(1, local), at(33))?;
     let called = Node::Call(0, Seq::new(alloc), one(alloc, seven)?);
-    let call = builder.push(called, at(54))?;
+    builder.push(called, at(54))?;
     let spawned = Node::Spawn(0, Seq::new(alloc), Seq::new(alloc));
-    let spawn = builder.push(spawned, at(60))?;
-    let steps = [
-        Step {
-            node: seven,
-            binds: true,
-        },
-        Step {
-            node: call,
-            binds: false,
-        },
-        Step {
-            node: spawn,
-            binds: false,
-        },
-    ];
-    let functions = [
-        Function {
-            at: at(11),
-            takes: 1,
-            body: local,
-        },
-        Function {
-            at: at(12),
-            takes: 0,
-            body: seven,
-        },
-    ];
-    let behaviours = [Behaviour {
+    builder.push(spawned, at(60))?;
+    Ok(())
+}
+
+fn step(index: u32, binds: bool) -> Step
+    ensures { result.node.index ≡ index }
+{
+    Step {
+        node: NodeId { index },
+        binds,
+    }
+}
+
+fn function(column: u32, takes: u32, index: u32) -> Function
+    requires { 1 ≤ column }
+    ensures { result.body.index ≡ index }
+{
+    Function {
+        at: at(column),
+        takes,
+        body: NodeId { index },
+    }
+}
+
+// The program of these nodes.
+fn finished(alloc: Global, builder: Builder) -> Result<Program, AllocError>
+    requires all { 4 < length builder }
+    requires turn { IsTurnAt builder (record { index = 2 }) }
+    requires functions { All (λ row. FunctionsBelow 1 row.node) builder }
+    requires behaviours { All (λ row. BehavioursBelow 1 row.node) builder }
+{
+    let behaviour = Behaviour {
         at: at(33),
         hidden: 0,
         state: 0,
         message: 1,
-        body: turn,
-    }];
-    Ok(builder.finish(
-        Seq::from_slice(alloc, steps.as_slice())?,
-        Seq::from_slice(alloc, functions.as_slice())?,
-        1,
-        Seq::from_slice(alloc, behaviours.as_slice())?,
-    )?)
+        body: NodeId { index: 2 },
+    };
+    let steps = [step(0, true), step(3, false), step(4, false)];
+    let functions = [function(11, 1, 1), function(12, 0, 0)];
+    let steps = Seq::from_slice(alloc, steps.as_slice())?;
+    let functions = Seq::from_slice(alloc, functions.as_slice())?;
+    let behaviours = Seq::from_slice(alloc, [behaviour].as_slice())?;
+    builder.finish(steps, functions, 1, behaviours)
+}
+
+// (def n 7) (defn f [x] x) (def b (behavior [] [m] m)) (f n) (spawn b)
+fn sample(alloc: Global) -> Result<Program, BuildNo> {
+    let mut builder = Builder::new(alloc);
+    push_nodes(alloc, &mut builder)?;
+    Ok(finished(alloc, builder)?)
 }
 
 fn name_of(node: &Node) -> &'static str {
