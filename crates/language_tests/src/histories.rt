@@ -1,21 +1,33 @@
 use serial_model::{Entry, History, Limits};
+use std::alloc::{AllocError, Global};
 use std::test::Fail;
 use value_core::Name;
 
-#[test]
-fn keeps_its_entries(rt: HostRuntime) -> Result<(), Fail> {
-    let mut history = History::new(rt.alloc());
+fn push_main(history: &mut History, alloc: Global) -> Result<(), AllocError> {
+    let name = Name::main(alloc)?;
+    history.push(Entry::Run(name))
+}
+
+fn is_run_of_main(entry: &Entry) -> bool {
+    match entry {
+        Entry::Run(name) => name.parts() == [0].as_slice(),
+        Entry::Take(_, _) => false,
+    }
+}
+
+fn keeps_three(alloc: Global) -> Result<bool, AllocError> {
+    let mut history = History::new(alloc);
     history.reserve(2)?;
     for _ in 0..3 {
-        history.push(Entry::Run(Name::main(rt.alloc())?))?;
+        push_main(&mut history, alloc)?;
     }
-    assert_eq!(rt; history.entries().len(), 3);
-    for entry in history.entries() {
-        match entry {
-            Entry::Run(name) => assert_eq!(rt; name.parts(), [0].as_slice()),
-            Entry::Take(_, _) => assert!(rt; false, "another entry"),
-        }
-    }
+    let entries = history.entries();
+    Ok(entries.len() == 3 && entries.iter().all(is_run_of_main))
+}
+
+#[test]
+fn keeps_its_entries(rt: HostRuntime) -> Result<(), Fail> {
+    assert!(rt; keeps_three(rt.alloc())?);
     Ok(())
 }
 

@@ -1,7 +1,7 @@
 use crate::maps::{a_map, text};
 use std::alloc::{AllocError, Global};
 use std::test::Fail;
-use value_core::{Dict, Key, KeyNo, Op, Value, Values};
+use value_core::{Dict, Key, KeyNo, Op, Text, Value, Values};
 use value_ops::apply;
 
 // Whether the value is the key.
@@ -12,14 +12,21 @@ fn is_key(alloc: Global, value: &Value, key: &Key) -> bool {
     }
 }
 
+fn string_is_key(alloc: Global, word: &Text) -> Result<bool, AllocError> {
+    let string = Value::Str(word.copy(alloc)?);
+    let key = Key::Str(word.copy(alloc)?);
+    Ok(is_key(alloc, &string, &key))
+}
+
+fn keyword_is_key(alloc: Global, word: &Text) -> Result<bool, AllocError> {
+    let keyword = Value::Kw(word.copy(alloc)?);
+    let key = Key::Kw(word.copy(alloc)?);
+    Ok(is_key(alloc, &keyword, &key))
+}
+
 fn words_are_keys(alloc: Global) -> Result<bool, AllocError> {
     let word = text(alloc, b"word")?;
-    let string = Value::Str(word.copy(alloc)?);
-    let keyword = Value::Kw(word.copy(alloc)?);
-    Ok(
-        is_key(alloc, &string, &Key::Str(word.copy(alloc)?))
-            && is_key(alloc, &keyword, &Key::Kw(word)),
-    )
+    Ok(string_is_key(alloc, &word)? && keyword_is_key(alloc, &word)?)
 }
 
 #[test]

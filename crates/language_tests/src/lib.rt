@@ -19,3 +19,5 @@ mod sent;
 mod texts;
 #[cfg(test)]
 mod values;
+#[cfg(test)]
+mod words;

@@ -25,15 +25,27 @@ fn put_atoms(pairs: &mut Dict<Value>) -> Result<(), AllocError> {
     Ok(())
 }
 
+fn put_words(pairs: &mut Dict<Value>, alloc: Global) -> Result<(), AllocError> {
+    put_string(pairs, text(alloc, b"b")?, Value::Int(1))?;
+    put_word(pairs, text(alloc, b"z")?, 2)
+}
+
+fn put_more(pairs: &mut Dict<Value>, alloc: Global) -> Result<(), AllocError> {
+    put_string(pairs, text(alloc, b"a")?, Value::Nil)?;
+    pairs.put(Key::Int(-3), Value::Ref(name_of(alloc, &[1])?))
+}
+
+fn put_all(pairs: &mut Dict<Value>, alloc: Global) -> Result<(), AllocError> {
+    pairs.reserve(7)?;
+    put_words(pairs, alloc)?;
+    put_atoms(pairs)?;
+    put_more(pairs, alloc)
+}
+
 // A map with a key of each kind, put in no order, and one put twice.
 pub(crate) fn a_map(alloc: Global) -> Result<Dict<Value>, AllocError> {
     let mut pairs = Dict::new(alloc);
-    pairs.reserve(7)?;
-    put_string(&mut pairs, text(alloc, b"b")?, Value::Int(1))?;
-    put_word(&mut pairs, text(alloc, b"z")?, 2)?;
-    put_atoms(&mut pairs)?;
-    put_string(&mut pairs, text(alloc, b"a")?, Value::Nil)?;
-    pairs.put(Key::Int(-3), Value::Ref(name_of(alloc, &[1])?))?;
+    put_all(&mut pairs, alloc)?;
     Ok(pairs)
 }
 

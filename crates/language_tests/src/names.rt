@@ -12,6 +12,17 @@ pub(crate) fn name_of(alloc: Global, parts: &[u32]) -> Result<Name, AllocError> 
     Ok(name)
 }
 
+fn is_written_so(alloc: Global, name: &Name, text: &[u8]) -> Result<bool, AllocError> {
+    Ok(name.text(alloc)?.items() == text)
+}
+
+fn is_read_from(alloc: Global, name: &Name, text: &[u8]) -> bool {
+    match Name::read(alloc, text) {
+        Ok(read) => read.parts() == name.parts(),
+        Err(_) => false,
+    }
+}
+
 #[test]
 fn names_are_written_and_read(rt: HostRuntime) -> Result<(), Fail> {
     let table: [(&[u8], &[u32]); 4] = [
@@ -22,11 +33,8 @@ fn names_are_written_and_read(rt: HostRuntime) -> Result<(), Fail> {
     ];
     for (text, below_main) in table {
         let name = name_of(rt.alloc(), below_main)?;
-        assert_eq!(rt; name.text(rt.alloc())?.items(), text);
-        match Name::read(rt.alloc(), text) {
-            Ok(read) => assert_eq!(rt; read.parts(), name.parts()),
-            Err(_) => assert!(rt; false, "a name is refused"),
-        }
+        assert!(rt; is_written_so(rt.alloc(), &name, text)?);
+        assert!(rt; is_read_from(rt.alloc(), &name, text));
     }
     Ok(())
 }

@@ -28,17 +28,20 @@ fn shared(alloc: Global, program: Program) -> Result<Arc<Program>, AllocError> {
     Ok(moved(Arc::new(alloc, program)?))
 }
 
-fn machine_moves(alloc: Global) -> Result<bool, BuildNo> {
-    let program = sample(alloc)?;
-    let machine = moved(machine_of(alloc, &program, 2, 3)?);
-    let _program = shared(alloc, program)?;
+fn machine_moves(alloc: Global, program: &Program) -> Result<bool, AllocError> {
+    let machine = moved(machine_of(alloc, program, 2, 3)?);
     Ok(machine.same(&machine))
+}
+
+fn shared_machine_moves(alloc: Global) -> Result<bool, BuildNo> {
+    let program = shared(alloc, sample(alloc)?)?;
+    Ok(machine_moves(alloc, &program)?)
 }
 
 #[test]
 fn what_a_thread_needs_may_be_sent(rt: HostRuntime) -> Result<(), Fail> {
     assert!(rt; value_moves(rt.alloc())?);
     assert!(rt; history_moves(rt.alloc()));
-    assert!(rt; machine_moves(rt.alloc())?);
+    assert!(rt; shared_machine_moves(rt.alloc())?);
     Ok(())
 }

@@ -25,10 +25,19 @@ fn measures_a_vector(alloc: Global) -> Result<bool, AllocError> {
     Ok(vector.depth() == 3 && vector.holds_future())
 }
 
+fn equals_its_copy(alloc: Global, value: &Value) -> Result<bool, AllocError> {
+    let copy = value.copy(alloc)?;
+    Ok(value.equal(&copy))
+}
+
+fn equals_the_map(alloc: Global, value: &Value) -> Result<bool, AllocError> {
+    let map = Value::Map(a_map(alloc)?);
+    Ok(value.equal(&map))
+}
+
 fn is_equal_to_its_copy(alloc: Global) -> Result<bool, AllocError> {
     let vector = a_vector(alloc)?;
-    let copy = vector.copy(alloc)?;
-    Ok(vector.equal(&copy) && !vector.equal(&Value::Map(a_map(alloc)?)))
+    Ok(equals_its_copy(alloc, &vector)? && !equals_the_map(alloc, &vector)?)
 }
 
 // The vector of these integers.
@@ -40,16 +49,20 @@ fn integers(alloc: Global, numbers: &[i64]) -> Result<Value, AllocError> {
     Ok(Value::Vector(items))
 }
 
+fn are_integers(alloc: Global, items: Values, numbers: &[i64]) -> Result<bool, AllocError> {
+    let wanted = integers(alloc, numbers)?;
+    Ok(Value::Vector(items).equal(&wanted))
+}
+
 // What is written into a list and pushed onto it is not seen in the copy that shares its items.
 fn a_copy_stays(alloc: Global) -> Result<bool, AllocError> {
     let mut items = copy_list(alloc, &[Value::Int(1), Value::Int(2)])?;
     let kept = items.copy()?;
     items.set(0, Value::Int(3))?;
     items.add(Value::Int(4))?;
-    Ok(
-        Value::Vector(kept).equal(&integers(alloc, &[1, 2])?)
-            && Value::Vector(items).equal(&integers(alloc, &[3, 2, 4])?),
-    )
+    let stays = are_integers(alloc, kept, &[1, 2])?;
+    let changed = are_integers(alloc, items, &[3, 2, 4])?;
+    Ok(stays && changed)
 }
 
 fn kinds_of_names_differ(alloc: Global) -> Result<bool, AllocError> {

@@ -4,8 +4,6 @@
 mod list;
 mod pairs;
 mod runs;
-#[cfg(test)]
-mod tests;
 mod workers;
 
 pub use list::{Listed, Numbers};

@@ -10,14 +10,14 @@ use std::alloc::{AllocError, Global};
 use value_core::{Place, Seq};
 
 /// What a chain of parts is.
-#[derive(Clone, Copy, Debug, PartialEq, Eq)]
+#[derive(Clone, Copy)]
 pub(crate) enum Chain {
     And,
     Or,
 }
 
 /// A part of a chain before the last: its value, the local that tests it, and in an `or` the local that gives it.
-#[derive(Clone, Copy, Debug, PartialEq, Eq)]
+#[derive(Clone, Copy)]
 pub(crate) enum ChainPart {
     And {
         value: NodeId,

@@ -1,4 +1,4 @@
-ghost use Rattle.std.specs.Prelude.{◌≡◌, ◌≤◌, [], ◌∷◌, ◌++◌, map, length, All, IfOk};
+ghost use Rattle.std.specs.Prelude.{◌≡◌, ◌≤◌, ◌+◌, [], ◌∷◌, ◌++◌, map, length, All, IfOk};
 ghost use Rattle.core_syntax.specs.WellFormed.{IsBelow};
 ghost use Rattle.program_plan.specs.Emitted.{emitted, each, by_last, let_of, cond_of, loop_of};
 ghost use Rattle.program_plan.specs.Chains.{chain_of, chain_part, PartBelow};
@@ -167,11 +167,30 @@ impl Emitter {
     {
         let mut tested = Seq::new(alloc);
         for (index, part) in parts.iter().enumerate() {
-            let level = level_after(level, index)?;
-            let part = self.emit_chain_part(alloc, frame, at, kind, level, part)?;
+            let part = self.emit_part_after(alloc, frame, at, kind, level, index, part)?;
             add(&mut tested, part)?;
         }
         Ok(tested)
+    }
+
+    // Appends the part of a chain that stands behind so many others.
+    #[cycle(emit)]
+    fn emit_part_after(
+        &mut self,
+        alloc: Global,
+        frame: &Frame,
+        at: Place,
+        kind: Chain,
+        level: u32,
+        index: usize,
+        part: &Expr,
+    ) -> Result<ChainPart, BuildNo>
+        ensures makes { Makes (chain_part kind at frame.now (level + index) (emitted part.now)) self.old result self.new }
+        ensures below { IfOk result (λ tested. PartBelow (length self.new.rows) tested) }
+        ensures kept { length self.old.rows ≤ length self.new.rows }
+    {
+        let level = level_after(level, index)?;
+        self.emit_chain_part(alloc, frame, at, kind, level, part)
     }
 
     #[cycle(emit)]

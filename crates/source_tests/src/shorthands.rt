@@ -45,22 +45,40 @@ fn push_core(
     text: &mut Text,
     detail: Detail,
 ) -> Result<(), AllocError> {
-    match &core.kind {
-        CoreKind::Nil => text.extend(b"nil")?,
-        CoreKind::Bool(true) => text.extend(b"true")?,
-        CoreKind::Bool(false) => text.extend(b"false")?,
-        CoreKind::Int(number) => text.extend(format!(in alloc; "{number}")?.as_bytes())?,
-        CoreKind::Str(string) => push_around(text, b"\"", string.items(), b"\"")?,
-        CoreKind::Kw(name) => push_around(text, b":", name.items(), b"")?,
-        CoreKind::Sym(name) => text.extend(name.items())?,
-        CoreKind::Fresh(number) => text.extend(format!(in alloc; "#{number}")?.as_bytes())?,
-        CoreKind::List(parts) => push_parts(alloc, parts, text, b"(", b")", detail)?,
-        CoreKind::Vector(parts) => push_parts(alloc, parts, text, b"[", b"]", detail)?,
-        CoreKind::Map(parts) => push_parts(alloc, parts, text, b"{", b"}", detail)?,
-        CoreKind::Bad(BadKind::Arity) => text.extend(b"!arity")?,
-        CoreKind::Bad(BadKind::BadForm) => text.extend(b"!form")?,
-    }
+    push_kind(alloc, core, text, detail)?;
     push_place(alloc, core, text, detail)
+}
+
+#[cycle(written)]
+fn push_kind(
+    alloc: Global,
+    core: &Core,
+    text: &mut Text,
+    detail: Detail,
+) -> Result<(), AllocError> {
+    match &core.kind {
+        CoreKind::Nil => text.extend(b"nil"),
+        CoreKind::Bool(true) => text.extend(b"true"),
+        CoreKind::Bool(false) => text.extend(b"false"),
+        CoreKind::Int(number) => push_int(alloc, text, *number),
+        CoreKind::Str(string) => push_around(text, b"\"", string.items(), b"\""),
+        CoreKind::Kw(name) => push_around(text, b":", name.items(), b""),
+        CoreKind::Sym(name) => text.extend(name.items()),
+        CoreKind::Fresh(number) => push_fresh(alloc, text, *number),
+        CoreKind::List(parts) => push_parts(alloc, parts, text, b"(", b")", detail),
+        CoreKind::Vector(parts) => push_parts(alloc, parts, text, b"[", b"]", detail),
+        CoreKind::Map(parts) => push_parts(alloc, parts, text, b"{", b"}", detail),
+        CoreKind::Bad(BadKind::Arity) => text.extend(b"!arity"),
+        CoreKind::Bad(BadKind::BadForm) => text.extend(b"!form"),
+    }
+}
+
+fn push_int(alloc: Global, text: &mut Text, number: i64) -> Result<(), AllocError> {
+    text.extend(format!(in alloc; "{number}")?.as_bytes())
+}
+
+fn push_fresh(alloc: Global, text: &mut Text, number: u32) -> Result<(), AllocError> {
+    text.extend(format!(in alloc; "#{number}")?.as_bytes())
 }
 
 fn push_around(

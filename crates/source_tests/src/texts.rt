@@ -120,6 +120,21 @@ fn reads_forms(rt: HostRuntime) -> Result<(), Fail> {
     Ok(())
 }
 
+fn refusal(error: &ReadNo) -> Option<(ReadKind, u32, u32)> {
+    match error {
+        ReadNo::Refused { kind, at } => Some((*kind, at.line(), at.column())),
+        ReadNo::Memory => None,
+    }
+}
+
+// Why and where the source is refused.
+fn refused(alloc: Global, source: &[u8]) -> Option<(ReadKind, u32, u32)> {
+    match read(alloc, source) {
+        Err(error) => refusal(&error),
+        Ok(_forms) => None,
+    }
+}
+
 #[test]
 fn refuses_other_sources(rt: HostRuntime) {
     let rows: [(&[u8], ReadKind, u32, u32); 21] = [
@@ -146,17 +161,15 @@ fn refuses_other_sources(rt: HostRuntime) {
         (&[b'@'; 256], ReadKind::Unclosed, 1, 256),
     ];
     for (source, kind, line, column) in rows {
-        match read(rt.alloc(), source) {
-            Ok(_) => panic!(rt; "{source:?} is read"),
-            Err(error) => assert_eq!(rt; refusal(&error), Some((kind, line, column))),
-        }
+        assert_eq!(rt; refused(rt.alloc(), source), Some((kind, line, column)));
     }
 }
 
-fn refusal(error: &ReadNo) -> Option<(ReadKind, u32, u32)> {
-    match error {
-        ReadNo::Refused { kind, at } => Some((*kind, at.line(), at.column())),
-        ReadNo::Memory => None,
+fn is_spelled_so(alloc: Global, source: &[u8], spelled: &[u8]) -> Result<bool, ReadNo> {
+    let forms = read(alloc, source)?;
+    match spell(alloc, &forms) {
+        Ok(text) => Ok(text.items() == spelled),
+        Err(_) => Err(ReadNo::Memory),
     }
 }
 
@@ -166,9 +179,7 @@ fn spells_forms(rt: HostRuntime) -> Result<(), Fail> {
         b" [nil true,false :k a'b] ; x\n{}@(f\n\"\\\"\\\\\\n\\t\\r\\f\\b\xc3\xa9\"@ @x) -7 +0()";
     let spelled: &[u8] =
         b"[nil true false :k a'b]\n{}\n@(f \"\\\"\\\\\\n\\t\\r\\f\\b\xc3\xa9\" @@x)\n-7\n0\n()\n";
-    let once = spell(rt.alloc(), &read(rt.alloc(), source)?)?;
-    assert!(rt; once.items() == spelled);
-    let twice = spell(rt.alloc(), &read(rt.alloc(), once.items())?)?;
-    assert!(rt; twice.items() == spelled);
+    assert!(rt; is_spelled_so(rt.alloc(), source, spelled)?);
+    assert!(rt; is_spelled_so(rt.alloc(), spelled, spelled)?);
     Ok(())
 }

@@ -6,6 +6,7 @@ use Rattle.value_core.specs.contracts.value.Value as value
 use Rattle.value_core.specs.declared.value.Value.{Value}
 use Rattle.serial_model.specs.contracts.effect.Effect as effect
 use Rattle.serial_model.specs.declared.effect.Effect.{Effect}
+use Rattle.serial_model.specs.declared.effect.What.{What}
 use Rattle.serial_model.specs.Log.{Log}
 use Rattle.value_core.specs.Named.{Name, Named, made_by}
 use Rattle.value_core.specs.NameSet.{HasNames}
@@ -26,3 +27,7 @@ mark_of effect = made_by effect.task effect.number
 -- the set has the marks of these effects and no others
 abbrev pub HasEffects : BTreeSet Name → List Effect → Type 0
 HasEffects set effects = HasNames set (map mark_of effects)
+
+-- the effect that the task does next
+abbrev pub next_effect : Log → What → Effect
+next_effect log what = record { task = log.name; number = log.own; what = what }

@@ -42,9 +42,17 @@ pub fn set_ref(
     ensures done { IfOk result (λ found. IsDone log.new (with_write log.old name content) found (answer.Value content)) }
     ensures same { OnErr result (log.new ≡ log.old) }
 {
-    let answer = content.copy(alloc)?;
+    let given = content.copy(alloc)?;
+    write(log, name, content, given)
+}
+
+/// Writes the ref, which is answered so.
+fn write(log: &mut TaskLog, name: Name, content: Value, given: Value) -> Result<Answer, AllocError>
+    ensures done { IfOk result (λ found. IsDone log.new (with_write log.old name content) found (answer.Value given)) }
+    ensures same { OnErr result (log.new ≡ log.old) }
+{
     log.write(name, content)?;
-    Ok(Answer::Value(answer))
+    Ok(Answer::Value(given))
 }
 
 /// A new actor is the next thing that the task makes.

@@ -3,7 +3,7 @@ ghost use Rattle.std.specs.Option.{option_copied};
 ghost use Rattle.serial_model.specs.Log.{merged, new_log, with_effect, with_made as made_more, with_write, with_missing, is_held as held_in};
 ghost use Rattle.serial_model.specs.declared.effect.Effect.{Effect as Effecting};
 ghost use Rattle.serial_model.specs.declared.effect.What.TheVariants as what;
-ghost use Rattle.task_log.specs.Logged.{mark_of};
+ghost use Rattle.task_log.specs.Logged.{mark_of, next_effect, HasEffects};
 ghost use Rattle.value_core.specs.Named.{is_among, named, over, made_by, with_name, Rises};
 
 use crate::copies::{copy_effects, copy_names, copy_set, copy_writes};
@@ -133,17 +133,20 @@ impl TaskLog {
         ensures acted { OnOk result (self.new ≡ with_effect self.old what) }
         ensures same { OnErr result (self.new ≡ self.old) }
     {
-        let mark = self.name.child(alloc, self.own)?;
-        let task = self.name.copy(alloc)?;
-        let effect = Effect {
-            task,
-            number: self.own,
-            what,
-        };
         let own = self.own.checked_add(1).ok_or(AllocError)?;
-        self.append(mark, effect)?;
+        self.append_own(alloc, what)?;
         self.own = own;
         Ok(())
+    }
+
+    /// Appends the task's next effect, which is not counted yet. For want of memory the log stays.
+    fn append_own(&mut self, alloc: Global, what: What) -> Result<(), AllocError>
+        ensures appended { OnOk result (self.new ≡ record self.old { effects = self.old.effects ++ next_effect self.old what ∷ [] }) }
+        ensures same { OnErr result (self.new ≡ self.old) }
+    {
+        let effect = effect_of(alloc, &self.name, self.own, what)?;
+        let mark = effect.task.child(alloc, effect.number)?;
+        self.append(mark, effect)
     }
 
     /// Makes a ref of that value, the next thing that the task makes. For want of memory the log stays.
@@ -181,14 +184,7 @@ impl TaskLog {
         ensures appended { OnOk result (self.new ≡ record self.old { effects = self.old.effects ++ effect ∷ [] }) }
         ensures same { OnErr result (self.new ≡ self.old) }
     {
-        self.effects.reserve(1)?;
-        match self.held.insert(mark) {
-            Ok(_) => {
-                self.effects.push_reserved(effect);
-                Ok(())
-            }
-            Err(_) => Err(AllocError),
-        }
+        append(&mut self.effects, &mut self.held, mark, effect)
     }
 
     /// Whether the task has joined the future.
@@ -308,5 +304,36 @@ impl TaskLog {
         ensures { result.items ≡ self.effects }
     {
         self.effects
+    }
+}
+
+/// The effect of the task with that number.
+fn effect_of(alloc: Global, task: &Name, number: u32, what: What) -> Result<Effect, AllocError>
+    ensures { IfOk result (λ effect. effect ≡ record { task = task.now; number = number; what = what }) }
+{
+    let task = task.copy(alloc)?;
+    Ok(Effect { task, number, what })
+}
+
+/// Appends an effect with its mark. For want of memory the effects stay.
+fn append(
+    effects: &mut Vec<Effect>,
+    held: &mut BTreeSet<Name>,
+    mark: Name,
+    effect: Effect,
+) -> Result<(), AllocError>
+    requires mark { mark ≡ mark_of effect }
+    requires held { HasEffects held.old effects.old.items }
+    ensures appended { OnOk result (effects.new.items ≡ effects.old.items ++ effect ∷ []) }
+    ensures same { OnErr result (effects.new.items ≡ effects.old.items) }
+    ensures held { HasEffects held.new effects.new.items }
+{
+    effects.reserve(1)?;
+    match held.insert(mark) {
+        Ok(_) => {
+            effects.push_reserved(effect);
+            Ok(())
+        }
+        Err(_) => Err(AllocError),
     }
 }

@@ -10,8 +10,6 @@ mod seat;
 mod slots;
 mod steps;
 mod still_out;
-#[cfg(test)]
-mod tests;
 mod turn;
 mod view;
 

@@ -132,14 +132,14 @@ emit_loop-returns-clause-makes t c =
 
 pub emit_chain_parts-returns-in_err-part-clause-makes : goal.emit_chain_parts-returns-in_err-part-clause-makes
 emit_chain_parts-returns-in_err-part-clause-makes t c =
-    makes_error _ c.from_residual-in_err-part.ensures (c.loop-index.invariant.left _ _ (gathered_stop (chain_part c.args.kind c.args.at c.args.frame.now) emitted c.args.level c.args.parts.now c.loop-index.index c.index-parts-index.result _ _ _ _ _ c.loop-index-test.true c.index-parts-index.is
-    (makes_part (chain_part c.args.kind c.args.at c.args.frame.now) _ _ (emitted c.index-parts-index.result) c.in_ok-level.ensures c.in_err-part.ensures.makes)))
+    makes_error _ c.from_residual.ensures (c.loop-index.invariant.left _ _ (gathered_stop (chain_part c.args.kind c.args.at c.args.frame.now) emitted c.args.level c.args.parts.now c.loop-index.index c.index-parts-index.result _ _ _ _ _ c.loop-index-test.true c.index-parts-index.is
+    c.in_err-part.ensures.makes))
 
 pub emit_chain_parts-loop-index-preserved : goal.emit_chain_parts-loop-index-preserved
 emit_chain_parts-loop-index-preserved t c = record {
   left = λ r u makes. c.loop-index.invariant.left r u
       (gathered_step (chain_part c.args.kind c.args.at c.args.frame.now) emitted c.args.level c.args.parts.now c.loop-index.index c.index-parts-index.result _ _ _ _ _ u r c.loop-index-test.true c.index-parts-index.is c.in_ok-add.ensures.ok
-      (makes_part (chain_part c.args.kind c.args.at c.args.frame.now) _ _ (emitted c.index-parts-index.result) c.in_ok-level.ensures c.in_ok-part.ensures.makes) makes);
+      c.in_ok-part.ensures.makes makes);
   below = parts_below _ _ _ _ _ c.in_ok-add.ensures.ok c.in_ok-part.ensures.kept c.loop-index.invariant.below c.in_ok-part.ensures.below;
   kept = omega arith;
 }
@@ -147,3 +147,7 @@ emit_chain_parts-loop-index-preserved t c = record {
 pub emit_chain_parts-returns-clause-makes : goal.emit_chain_parts-returns-clause-makes
 emit_chain_parts-returns-clause-makes t c =
     c.loop-index.invariant.left _ _ (gathered_done (chain_part c.args.kind c.args.at c.args.frame.now) emitted c.args.level c.args.parts.now c.loop-index.index _ _ c.loop-index-test.false)
+
+pub emit_part_after-returns-clause-makes : goal.emit_part_after-returns-clause-makes
+emit_part_after-returns-clause-makes t c =
+    makes_part (chain_part c.args.kind c.args.at c.args.frame.now) _ _ (emitted c.args.part.now) c.in_ok-level.ensures c.emit_chain_part.ensures.makes

@@ -10,31 +10,34 @@ use Rattle.program_plan.specs.Made.{Draft, Makes, gathered}
 use Rattle.program_plan.proofs.emitter.Emitter.+emit.Given as goal
 
 abbrev pub decreases-emit : goal.decreases-emit
-decreases-emit l = 4 * goal.size-emit l
+decreases-emit l = 5 * goal.size-emit l
 
 abbrev pub decreases-emit_each : goal.decreases-emit_each
-decreases-emit_each l = 4 * goal.size-emit_each l + 1
+decreases-emit_each l = 5 * goal.size-emit_each l + 1
 
 abbrev pub decreases-emit_apply : goal.decreases-emit_apply
-decreases-emit_apply l = 4 * goal.size-emit_apply l + 2
+decreases-emit_apply l = 5 * goal.size-emit_apply l + 2
 
 abbrev pub decreases-emit_let : goal.decreases-emit_let
-decreases-emit_let l = 4 * goal.size-emit_let l + 2
+decreases-emit_let l = 5 * goal.size-emit_let l + 2
 
 abbrev pub decreases-emit_cond : goal.decreases-emit_cond
-decreases-emit_cond l = 4 * goal.size-emit_cond l + 2
+decreases-emit_cond l = 5 * goal.size-emit_cond l + 2
 
 abbrev pub decreases-emit_chain : goal.decreases-emit_chain
-decreases-emit_chain l = 4 * goal.size-emit_chain l + 3
+decreases-emit_chain l = 5 * goal.size-emit_chain l + 4
 
 abbrev pub decreases-emit_chain_parts : goal.decreases-emit_chain_parts
-decreases-emit_chain_parts l = 4 * goal.size-emit_chain_parts l + 2
+decreases-emit_chain_parts l = 5 * goal.size-emit_chain_parts l + 3
 
 abbrev pub decreases-emit_chain_part : goal.decreases-emit_chain_part
-decreases-emit_chain_part l = 4 * goal.size-emit_chain_part l + 1
+decreases-emit_chain_part l = 5 * goal.size-emit_chain_part l + 1
+
+abbrev pub decreases-emit_part_after : goal.decreases-emit_part_after
+decreases-emit_part_after l = 5 * goal.size-emit_part_after l + 2
 
 abbrev pub decreases-emit_loop : goal.decreases-emit_loop
-decreases-emit_loop l = 4 * goal.size-emit_loop l + 2
+decreases-emit_loop l = 5 * goal.size-emit_loop l + 2
 
 -- what is left of the parts is made of what there is now
 abbrev pub invariant-emit_each-loop-part : goal.invariant-emit_each-loop-part

@@ -1,10 +1,10 @@
 ghost use Rattle.std.specs.Prelude.{◌≡◌, ◌++◌, ◌∷◌, [], OnOk, OnErr};
 
-use super::*;
 use std::alloc::AllocError;
 use std::process::Abort;
 use std::sync::Wait;
 use std::test::*;
+use world_lock::{Grows, StillOut, WorldLock};
 
 /// A list of numbers under a number that stays.
 #[derive(Drop)]

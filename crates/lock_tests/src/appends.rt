@@ -1,4 +1,4 @@
-use super::*;
+use lock_appends::{Listed, appended_by_four, appended_by_two};
 use std::process::Abort;
 use std::sync::Wait;
 use std::test::*;
