@@ -53,3 +53,8 @@ IsThere table inside (request.Dosync body values) = (body.index < length table.n
 IsThere table inside (request.Spawn behaviour state) = behaviour < length table.behaviours
 IsThere table inside (request.Become behaviour state) = behaviour < length table.behaviours
 IsThere table inside _ = Unit {0}
+
+-- a request that a task of a transaction makes: it is none for a transaction, since inside one none is begun
+abbrev pub IsInner : Request → Type 0
+IsInner (request.Dosync body values) = ⊥
+IsInner _ = Unit {0}

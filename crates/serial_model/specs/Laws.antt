@@ -1,15 +1,21 @@
--- What holds of every history that is replayed.
-use Rattle.std.specs.Prelude.{◌≡◌, ℕ, suc, ◌+◌, ◌*◌, ◌≤◌, true, List, [], ◌++◌, length, None, Some}
+-- What holds of every evaluation, and of every history that is replayed.
+use Rattle.std.specs.Prelude.{◌≡◌, ℕ, suc, ◌+◌, ◌*◌, ◌≤◌, Bool, true, List, [], ◌++◌, length, None, Some}
 use Rattle.std.specs.Option.{IsSome}
 use mathlib.Core.List.{IsPrefix}
 use Rattle.value_core.specs.Place.{Spot}
 use Rattle.value_core.specs.declared.value.Value.{Value}
 use Rattle.core_syntax.specs.declared.node_id.NodeId.{NodeId}
+use Rattle.core_syntax.specs.Table.{Table}
+use Rattle.serial_model.specs.Actors.{IsWithoutActors, NeedsNoActor}
+use Rattle.serial_model.specs.Carried.{IsInner}
 use Rattle.serial_model.specs.declared.actor_state.ActorState.{ActorState}
+use Rattle.serial_model.specs.declared.answer.Answer.{Answer}
 use Rattle.serial_model.specs.declared.end.End.TheVariants.{Done}
 use Rattle.serial_model.specs.declared.entry.Entry.{Entry}
 use Rattle.serial_model.specs.declared.halt.Halt.TheVariants as halt
+use Rattle.serial_model.specs.declared.request.Request.{Request}
 use Rattle.serial_model.specs.declared.request.Request.TheVariants as request
+use Rattle.serial_model.specs.Eval.{next}
 use Rattle.serial_model.specs.First.{first_of}
 use Rattle.serial_model.specs.Fitting.{IsBegun}
 use Rattle.value_core.specs.Named.{Name, Named, named, made_by}
@@ -80,3 +86,14 @@ TurnsAreLast setup = (entries : List Entry) (s : State) → replay setup entries
 -- a longer history has printed at least as much
 abbrev pub BytesGrow : Setup → Type 0
 BytesGrow setup = (entries more : List Entry) (s t : State) → replay setup entries ≡ Some s → replay setup (entries ++ more) ≡ Some t → IsPrefix s.bytes t.bytes
+
+-- inside a transaction a body asks for no other one
+abbrev pub NoneIsBegunInside : Type 0
+NoneIsBegunInside = (table : Table) (body : NodeId) (values : List Value) (answers : List Answer) (fuel : ℕ) (asked : Request) (at : Spot)
+    → next table body values true answers fuel ≡ halt.Ask asked at → IsInner asked
+
+-- in a table without actors a body asks for none
+abbrev pub NoActorIsAsked : Type 0
+NoActorIsAsked = (table : Table) → IsWithoutActors table
+    → (body : NodeId) (values : List Value) (inside : Bool) (answers : List Answer) (fuel : ℕ) (asked : Request) (at : Spot)
+    → next table body values inside answers fuel ≡ halt.Ask asked at → NeedsNoActor asked

@@ -1,3 +1,4 @@
+pub mod Actors
 pub mod Ahead
 pub mod Carried
 pub mod Eval

@@ -5,7 +5,7 @@ ghost use Rattle.value_core.specs.declared.value.Value.{Value};
 ghost use Rattle.core_syntax.specs.declared.node_id.NodeId.{NodeId};
 ghost use Rattle.core_syntax.specs.Fits.{IsFitting};
 ghost use Rattle.serial_model.specs.Fitting.{IsBegun, MeetsNoMisfit};
-ghost use Rattle.serial_model.specs.Laws.{AreBounded, BytesGrow, NoneIsOver, NoneIsStuck, NothingWaits, StepsSuffice, TasksAreBegun, TurnsAreLast, UnitsAreBegun, ValuesStay};
+ghost use Rattle.serial_model.specs.Laws.{AreBounded, BytesGrow, NoActorIsAsked, NoneIsBegunInside, NoneIsOver, NoneIsStuck, NothingWaits, StepsSuffice, TasksAreBegun, TurnsAreLast, UnitsAreBegun, ValuesStay};
 
 use crate::limits::Limits;
 use core_syntax::Program;
@@ -81,4 +81,14 @@ pub fn turns_are_last(program: &Program, limits: Limits)
 /// A longer history has printed at least as much: its bytes begin with those of the shorter one.
 pub fn bytes_grow(program: &Program, limits: Limits)
     ensures { BytesGrow (record { program = program.now; limits = limits }) }
+{}
+
+/// A body inside a transaction asks for no other transaction.
+pub fn none_is_begun_inside()
+    ensures { NoneIsBegunInside }
+{}
+
+/// A body of a program without actors makes no actor, gives none a behaviour, sends to none and asks for none.
+pub fn no_actor_is_asked()
+    ensures { NoActorIsAsked }
 {}

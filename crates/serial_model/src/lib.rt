@@ -21,8 +21,9 @@ pub use entry::Entry;
 pub use halt::Halt;
 pub use history::History;
 pub use laws::{
-    bytes_grow, entries_are_bounded, meets_no_misfit, none_is_over, none_is_stuck, nothing_waits,
-    steps_suffice, tasks_are_begun, turns_are_last, units_are_begun, values_stay,
+    bytes_grow, entries_are_bounded, meets_no_misfit, no_actor_is_asked, none_is_begun_inside,
+    none_is_over, none_is_stuck, nothing_waits, steps_suffice, tasks_are_begun, turns_are_last,
+    units_are_begun, values_stay,
 };
 pub use limits::Limits;
 pub use request::Request;

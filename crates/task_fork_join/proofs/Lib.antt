@@ -2,9 +2,10 @@ pub mod Begins
 pub mod Closes
 pub mod Ends
 pub mod Forks
+pub mod Halts
 pub mod Joins
+pub mod KeptTasks
 pub mod Members
 pub mod Replying
-pub mod Rooted
 pub mod Staying
 pub mod Steps

@@ -1,7 +1,7 @@
 -- The tasks of an attempt, as they are kept.
-use Rattle.std.specs.Prelude.{◌≡◌, ◌-◌, ℕ, List, [], ◌∷◌, Option, None, Some, refl, if◌then◌else◌, IfSome}
+use Rattle.std.specs.Prelude.{◌≡◌, ◌-◌, ℕ, true, List, [], ◌∷◌, Option, None, Some, refl, if◌then◌else◌, IfSome}
 use Rattle.std.specs.Coded.{Coded, code_by, coded×, coded_list, coded_option, coded_ℕ}
-use Rattle.std.specs.Option.{option_and_then}
+use Rattle.std.specs.Option.{option_and_then, IsSome}
 use Rattle.eval_step.specs.Evaluation.{Evaluation, IsSame}
 use Rattle.serial_model.specs.Standing.{Ended, Going, Stage, Tasks, TreeTask}
 use Rattle.serial_model.specs.Task.{Outcome, Value, Fault, Spent}
@@ -94,6 +94,16 @@ end_by escape (Some ended) = Some (unless_escaping escape ended)
 -- how the attempt ended
 abbrev pub end_at : Attempt → Option TaskEnd
 end_at tree = end_by tree.escape (option_and_then (λ t. end_of t.stage) (named tree.root tree.tasks))
+
+-- a task that goes on is inside a transaction
+abbrev pub IsInside : KeptStage → Type 0
+IsInside (kept.Going machine) = machine.inside ≡ true
+IsInside (kept.Ended ended) = Unit {0}
+
+-- the tasks of an attempt: the root is there, and all that go on are inside a transaction
+pub record AreTasks (root : Name) (tasks : Named Task) : Type 0 where
+  pub rooted : IsSome (named root tasks)
+  pub inside : (name : Name) (t : Task) → named name tasks ≡ Some t → IsInside t.stage
 
 -- the task of that name has not finished, and its machine evaluates the same as this one and has the same answers
 pub record IsKept (name : Name) (moved : Evaluation) (tasks : Named Task) : Type 0 where

@@ -1,5 +1,5 @@
 -- The joins at the end of a task.
-use Rattle.std.specs.Prelude.{◌≡◌, ◌<◌, ℕ, zero, suc, ◌+◌, Option, None, Some, if◌then◌else◌}
+use Rattle.std.specs.Prelude.{◌≡◌, ◌<◌, ℕ, zero, suc, Option, None, Some, if◌then◌else◌}
 use Rattle.eval_step.specs.Evaluation.{Evaluation}
 use Rattle.task_fork_join.specs.declared.closing.Closed.{Closed}
 use Rattle.task_fork_join.specs.declared.closing.Went.{Went}

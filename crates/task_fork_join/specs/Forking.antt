@@ -1,5 +1,5 @@
 -- A child that is forked.
-use Rattle.std.specs.Prelude.{◌≡◌, ◌||◌, ◌+◌, ◌<◌, ℕ, zero, List, [], length, true, Option, None, Some}
+use Rattle.std.specs.Prelude.{◌≡◌, ◌||◌, ◌+◌, ◌<◌, ℕ, List, [], length, true, Option, Some}
 use Rattle.core_syntax.specs.declared.node_id.NodeId.{NodeId}
 use Rattle.core_syntax.specs.Table.{Table}
 use Rattle.eval_step.specs.Evaluation.{Evaluation, IsOf}

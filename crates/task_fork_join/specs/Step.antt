@@ -1,10 +1,13 @@
 -- What a step of a task comes to.
 use Rattle.std.specs.Prelude.{◌≡◌, Option}
-use Rattle.eval_step.specs.Evaluation.{Evaluation, IsAsking}
+use Rattle.core_syntax.specs.Table.{Table}
+use Rattle.eval_step.specs.Evaluation.{Evaluation, IsAsk, IsAsking}
+use Rattle.serial_model.specs.Carried.{IsInner}
 use Rattle.serial_model.specs.declared.halt.Halt.{Halt}
 use Rattle.serial_model.specs.declared.halt.Halt.TheVariants as halt
 use Rattle.serial_model.specs.declared.request.Request.{Request}
 use Rattle.serial_model.specs.declared.request.Request.TheVariants as request
+use Rattle.serial_model.specs.Eval.{next}
 use Rattle.task_fork_join.specs.Attempt.{Attempt}
 use Rattle.task_fork_join.specs.Closing.{IsClose}
 use Rattle.task_fork_join.specs.declared.stepped.Stepped.{Stepped}
@@ -48,12 +51,17 @@ pub record IsStep (refs : Name → Option Datum) (name : Name) (moved : Evaluati
   pub comes : Comes refs name moved outer halts old new found
   pub stays : Stays old new
 
--- a request that a task makes: it is none for a transaction, since inside one none is begun
-abbrev pub IsInner : Request → Type 0
-IsInner (request.Dosync body values) = ⊥
-IsInner _ = Unit {0}
+-- the machine stands at the request to which it comes in some program
+pub record IsHalted (moved : Evaluation) (halts : Halt) : Type 0 where
+  pub asking : IsAsking moved
+  pub program : Table
+  pub comes : next program moved.body moved.values moved.inside moved.answers moved.fuel ≡ halts
 
 -- where the machine halts at a request it stands there
 abbrev pub HaltsAt : Evaluation → Halt → Type 0
-HaltsAt moved (halt.Ask asked at) = IsAsking moved × IsInner asked
-HaltsAt moved _ = Unit {0}
+HaltsAt moved halts = IsAsk halts → IsHalted moved halts
+
+-- a request at which the machine stands is none for a transaction
+abbrev pub AsksInside : Evaluation → Halt → Type 0
+AsksInside moved (halt.Ask asked at) = IsAsking moved × IsInner asked
+AsksInside moved _ = Unit {0}

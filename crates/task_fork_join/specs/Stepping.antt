@@ -1,5 +1,5 @@
 -- What a step does to the task that takes it.
-use Rattle.std.specs.Prelude.{◌≡◌, List, [], ◌∷◌, ◌++◌, Option, None, Some, is_some, if◌then◌else◌}
+use Rattle.std.specs.Prelude.{◌≡◌, List, [], ◌∷◌, ◌++◌, Option, Some, is_some, if◌then◌else◌}
 use Rattle.core_syntax.specs.Table.{Table}
 use Rattle.eval_step.specs.Evaluation.{Evaluation, IsOf, IsSameTask}
 use Rattle.serial_model.specs.declared.answer.Answer.{Answer}

@@ -1,12 +1,13 @@
 ghost use Rattle.std.specs.Prelude.{◌≡◌, ◌∷◌, [], true, IfOk, OnErr, OnOk, Some};
 ghost use Rattle.std.specs.Option.{option_copied};
 ghost use Rattle.eval_step.specs.Evaluation.{IsAsking};
+ghost use Rattle.serial_model.specs.Carried.{IsInner};
 ghost use Rattle.task_fork_join.specs.Attempt.{end_at, machine_of, unless_escaping, IsKept, IsNew, IsRootAlone, IsRootLog};
 ghost use Rattle.task_fork_join.specs.Closing.{IsClose};
 ghost use Rattle.task_fork_join.specs.Forking.{CameFork};
 ghost use Rattle.task_fork_join.specs.Joining.{IsEnded, IsJoin};
 ghost use Rattle.task_fork_join.specs.Stepping.{IsActed};
-ghost use Rattle.task_fork_join.specs.Step.{Asks, HaltsAt, IsInner, IsStep, Stays};
+ghost use Rattle.task_fork_join.specs.Step.{Asks, AsksInside, HaltsAt, IsStep, Stays};
 ghost use Rattle.txn_snapshot.specs.SnapshotAnswer.{snapshot_of, IsAnswerable};
 ghost use Rattle.value_core.specs.Named.{named};
 
@@ -42,9 +43,7 @@ pub struct Tree {
 }
 
 impl Model for Tree {
-    ghost use Rattle.std.specs.Option.{IsSome};
-    ghost use Rattle.task_fork_join.specs.Attempt.{attempt_code, Attempt};
-    ghost use Rattle.value_core.specs.Named.{named};
+    ghost use Rattle.task_fork_join.specs.Attempt.{attempt_code, AreTasks, Attempt};
 
     ghost Value = { Attempt };
 
@@ -60,7 +59,7 @@ impl Model for Tree {
       escape = t.escape;
     } };
 
-    ghost invariant = { λ t. IsSome (named t.root t.tasks.entries) };
+    ghost invariant = { λ t. AreTasks t.root t.tasks.entries };
 }
 
 impl Tree {
@@ -103,7 +102,7 @@ impl Tree {
         }
     }
 
-    /// A step of the task, whose kept machine was moved to that halt. A request is answered on the store at the snapshot, or
+    /// A step of the task, whose kept machine was moved to that halt, as a run of a copy of it does. A request is answered on the store at the snapshot, or
     /// by the value of the plain task that is asked for, where it has one. `WaitJoin` comes exactly where the future that is
     /// asked for, or the first child that is still to be joined at the task's value, has not finished; `NotInSnapshot`
     /// exactly where a deref or a ref-set names a ref that is nowhere; with both the tree keeps the machine as moved, and else
@@ -122,12 +121,22 @@ impl Tree {
         ensures step { IfOk result (IsStep (snapshot_of store.now.versions self.old.snapshot) task.now moved (option_copied outer.entry) halt self.old self.new) }
         ensures same { OnErr result (self.new ≡ self.old) }
     {
+        self.asks_inside(task, &moved, &halt);
         match halt {
             Halt::Ask(request, _) => self.ask(alloc, task, moved, request, store, outer),
             Halt::Value(value) => self.close(alloc, task, moved, value),
             Halt::Fault(code, at) => Ok(self.end(task, moved, TaskEnd::Fault(code, at))),
             Halt::Spent => Ok(self.end(task, moved, TaskEnd::Spent)),
         }
+    }
+
+    /// Says of a request at which a task stands, and only says it, that it is none for a transaction: the task is inside one.
+    fn asks_inside(&self, task: &Name, moved: &Machine, halt: &Halt)
+        requires kept { IsKept task.now moved.now self.now.tasks }
+        requires halts { HaltsAt moved.now halt.now }
+        ensures { AsksInside moved.now halt.now }
+    {
+        let _root = &self.root;
     }
 
     /// The task asks for that.

@@ -28,7 +28,7 @@ use Rattle.trace_text.proofs.Passing.{end_line, entry_line, entry_lines, limits_
 use Rattle.trace_text.proofs.Shapes.{code_small, codes_never_space, names_never_space, code_word, name_word, number_word, place_word, numbers_never_colon, numbers_never_space, place_is, places_never_space}
 
 -- ---- words
-one_name : (name other : List ℕ) → IsName name → IsName other → name_text name ≡ name_text other → name ≡ other
+pub one_name : (name other : List ℕ) → IsName name → IsName other → name_text name ≡ name_text other → name ≡ other
 one_name name other p q e =
     text_once name other (name_text other) (record { not_empty = p.not_empty; in_range = p.in_range; spelled = e }) (record { not_empty = q.not_empty; in_range = q.in_range; spelled = refl })
 
@@ -134,7 +134,7 @@ one_end UnitsSpent (Spent name) p q e = absurd (apart 117 115 refl (ap (λ t. ge
 one_end UnitsSpent UnitsSpent p q e = refl
 
 -- a line is that of one text
-one_text : (text other : List ℕ) → is_without 10 text ≡ true → is_without 10 other ≡ true → text ++ codes "\n" ≡ other ++ codes "\n" → text ≡ other
+pub one_text : (text other : List ℕ) → is_without 10 text ≡ true → is_without 10 other ≡ true → text ++ codes "\n" ≡ other ++ codes "\n" → text ≡ other
 one_text text other p q e = (cut_once 10 text [] other [] p q e).0
 
 one_body : (entries others : List Entry) (end other : End) → All IsEntry entries → All IsEntry others → IsEnd end → IsEnd other

@@ -1,3 +1,4 @@
+//! Bytes cut where a mark or a prefix stands.
 ghost use Rattle.std.specs.Prelude.{◌≡◌, ◌≢◌, ◌++◌, ◌↔◌, ℕ, List, true, IsTrue, IsNone, IfSome, position};
 ghost use Rattle.trace_text.specs.Cut.{IsCut, is_mark, is_without};
 

@@ -1,7 +1,7 @@
 //! The text of a trace: written, and read back.
 #![tactic(auto)]
 
-mod cut;
+pub mod cut;
 mod error;
 mod laws;
 mod line;

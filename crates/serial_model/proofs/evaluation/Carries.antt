@@ -35,8 +35,10 @@ use Rattle.serial_model.specs.declared.halt.Halt.{Halt}
 use Rattle.serial_model.specs.declared.halt.Halt.TheVariants as halt
 use Rattle.serial_model.specs.declared.request.Request.{Request}
 use Rattle.serial_model.specs.declared.request.Request.TheVariants as request
-use Rattle.serial_model.specs.Carried.{OfAnswer, OfRequest, OfHalt, IsSealed, IsThere}
+use Rattle.serial_model.specs.Actors.{is_of_actors, NeedsNoActor}
+use Rattle.serial_model.specs.Carried.{OfAnswer, OfRequest, OfHalt, IsInner, IsSealed, IsThere}
 use Rattle.serial_model.specs.Eval.{next}
+use Rattle.serial_model.specs.Laws.{NoActorIsAsked, NoneIsBegunInside}
 use Rattle.serial_model.specs.Operation.{Action, Faults, Asks, operate, local_value, hidden_values, action_of, applied, some_future, sealed, with_ref, with_actor, with_future, of_one, of_two, of_first, deref_outcome, ref_set_outcome, join_outcome, send_outcome}
 use Rattle.serial_model.proofs.evaluation.Agree.{all_at}
 use Rattle.serial_model.proofs.evaluation.Carrying.{HaltCarries, OutcomeCarries, IsEntered, next-good}
@@ -51,6 +53,9 @@ local-carries P nil (v ∷ frame) (suc place) all = local-carries P nil frame pl
 state-carries : (P : Value → Type 0) → P value.Nil → (frame : List Value) (hidden : List ℕ) (values : List Value) → All P frame → All P values → All P (hidden_values frame hidden ++ values)
 state-carries P nil frame hidden values all holds =
     All-append P (hidden_values frame hidden) values (All-map P (local_value frame) hidden (λ k d lt. local-carries P nil frame _ all)) holds
+
+true_is_false : true ≡ false → ⊥
+true_is_false never = cc
 
 alone : (b : Bool) → (b || false) ≡ false → b ≡ false
 alone true is = is
@@ -70,8 +75,9 @@ pub record Requests (P : Value → Type 0) (Q : Request → Type 0) (N : Node �
       → Q (request.Spawn number state)
   pub become : (number : ℕ) (hidden : List ℕ) (written : List NodeId) (state : List Value) → N (node.Become number hidden written) → All P state → some_future state ≡ false
       → Q (request.Become number state)
-  pub send : (name : List ℕ) (message : List Value) → P (value.Actor name) → All P message → some_future message ≡ false → Q (request.Send name message)
-  pub self : Q request.SelfActor
+  pub send : (receiver : NodeId) (written : List NodeId) (name : List ℕ) (message : List Value) → N (node.Send receiver written) → P (value.Actor name) → All P message → some_future message ≡ false
+      → Q (request.Send name message)
+  pub self : N node.SelfActor → Q request.SelfActor
 
 module _ (P : Value → Type 0) (Q : Request → Type 0) where
   -- a request that would be sealed needs to be good only where no future goes out with the values
@@ -140,10 +146,10 @@ module _ (P : Value → Type 0) (Q : Request → Type 0) where
       join-carries : (v : Value) → P v → OutcomeCarries P Q (join_outcome v)
       join-carries v holds = with_future-carries (out-Value v) (λ name. Asks (request.Join name)) (opened v holds) (λ name. requests.join name)
 
-      send-carries : (v : Value) (message : List Value) → P v → All P message → OutcomeCarries P Q (send_outcome v message)
-      send-carries v message holds all =
+      send-carries : (receiver : NodeId) (written : List NodeId) → N (node.Send receiver written) → (v : Value) (message : List Value) → P v → All P message → OutcomeCarries P Q (send_outcome v message)
+      send-carries receiver written is v message holds all =
           with_actor-carries (out-Value v) (λ name. sealed message (request.Send name message)) (opened v holds)
-          (λ name is_actor. sealed-carries message (request.Send name message) (requests.send name message is_actor all))
+          (λ name is_actor. sealed-carries message (request.Send name message) (requests.send receiver written name message is is_actor all))
 
       pub operation-carries : (frame : List Value) (n : Node) (values : List Value) → N n → IsEntered inside n → All P frame → All P values → OutcomeCarries P Q (operate frame n values)
       operation-carries frame node.Nil values is entered all good = structural.nil
@@ -172,8 +178,8 @@ module _ (P : Value → Type 0) (Q : Request → Type 0) where
       operation-carries frame (node.Become number hidden written) values is entered all good =
           let state = hidden_values frame hidden ++ values in
           sealed-carries state (request.Become number state) (requests.become number hidden written state is (state-carries P structural.nil frame hidden values all good))
-      operation-carries frame (node.Send receiver message) values is entered all good = of_first-carries send_outcome values good send-carries
-      operation-carries frame node.SelfActor values is entered all good = requests.self
+      operation-carries frame (node.Send receiver message) values is entered all good = of_first-carries send_outcome values good (send-carries receiver message is)
+      operation-carries frame node.SelfActor values is entered all good = requests.self is
       operation-carries frame (node.Turn takes body) values is entered all good = structural.nil
       operation-carries frame (node.Main steps) values is entered all good = structural.nil
 
@@ -197,8 +203,8 @@ requests_of P inside = record {
   dosync = λ body frame is outside all. all;
   spawn = λ number hidden written state is all none. all;
   become = λ number hidden written state is all none. all;
-  send = λ name message is_actor all none. (is_actor, all);
-  self = tt;
+  send = λ receiver written name message is is_actor all none. (is_actor, all);
+  self = λ is. tt;
 }
 
 -- what holds of all values that a body begins with and is answered holds of what it gives and asks for
@@ -252,8 +258,8 @@ sealed_requests inside = record {
   dosync = λ body frame is outside all. tt;
   spawn = λ number hidden written state is all none. none;
   become = λ number hidden written state is all none. none;
-  send = λ name message is_actor all none. none;
-  self = tt;
+  send = λ receiver written name message is is_actor all none. none;
+  self = λ is. tt;
 }
 
 -- no future goes out of a body into a ref, an actor or a message
@@ -287,8 +293,8 @@ there_requests table inside = record {
   dosync = λ body frame there outside all. (All-head (IsBelow (length table.nodes)) body [] there.children, outside);
   spawn = λ number hidden written state there all none. All-head (λ number. number < length table.behaviours) number [] there.behaviours;
   become = λ number hidden written state there all none. All-head (λ number. number < length table.behaviours) number [] there.behaviours;
-  send = λ name message is_actor all none. tt;
-  self = tt;
+  send = λ receiver written name message there is_actor all none. tt;
+  self = λ there. tt;
 }
 
 -- bodies and behaviours that a body names are in the table, and inside a transaction none is begun
@@ -296,3 +302,44 @@ pub ask-is-there : (table : Table) → IsWellFormed table → (body : NodeId) (v
     → next table body values inside answers fuel ≡ halt.Ask asked at → IsThere table inside asked
 ask-is-there table formed body values inside answers fuel asked at is =
     asked-good (IsThere table inside) (NamesAreThere table) inside (there_requests table inside) table (names_are_there table formed) body values answers fuel asked at is
+
+inner_requests : Requests Any IsInner (λ n. Unit {0}) true
+inner_requests = record {
+  print = λ text. tt;
+  new_ref = λ v holds none. tt;
+  deref = λ name holds. tt;
+  ref_set = λ name v is_ref holds none. tt;
+  fork = λ body frame is all. tt;
+  join = λ name holds. tt;
+  dosync = λ body frame is outside all. true_is_false outside;
+  spawn = λ number hidden written state is all none. tt;
+  become = λ number hidden written state is all none. tt;
+  send = λ receiver written name message is is_actor all none. tt;
+  self = λ is. tt;
+}
+
+-- inside a transaction a body asks for no other one
+pub ask-is-inner : NoneIsBegunInside
+ask-is-inner table body values answers fuel asked at is =
+    asked-good IsInner (λ n. Unit {0}) true inner_requests table (λ id row is. tt) body values answers fuel asked at is
+
+plain_requests : (inside : Bool) → Requests Any NeedsNoActor (λ n. is_of_actors n ≡ false) inside
+plain_requests inside = record {
+  print = λ text. tt;
+  new_ref = λ v holds none. tt;
+  deref = λ name holds. tt;
+  ref_set = λ name v is_ref holds none. tt;
+  fork = λ body frame is all. tt;
+  join = λ name holds. tt;
+  dosync = λ body frame is outside all. tt;
+  spawn = λ number hidden written state is all none. true_is_false is;
+  become = λ number hidden written state is all none. true_is_false is;
+  send = λ receiver written name message is is_actor all none. true_is_false is;
+  self = λ is. true_is_false is;
+}
+
+-- in a table without actors a body asks for none
+pub ask-needs-no-actor : NoActorIsAsked
+ask-needs-no-actor table without body values inside answers fuel asked at is =
+    asked-good NeedsNoActor (λ n. is_of_actors n ≡ false) inside (plain_requests inside) table
+    (λ id row there. all_at (λ row. is_of_actors row.node ≡ false) table.nodes id row without there) body values answers fuel asked at is

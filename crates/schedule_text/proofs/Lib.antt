@@ -1,0 +1,5 @@
+pub mod Every
+pub mod Passing
+pub mod Shapes
+pub mod Unique
+pub mod Whys

@@ -1,0 +1,166 @@
+-- What a step keeps of the tasks of an attempt: the root is there, and all that go on are inside a transaction.
+use Rattle.std.proofs.Common.{◌≡◌, ◌∙◌, [], ℕ, List, Bool, true, false, cond, refl, sym, ap, subst, Option, Some, None, Result, Ok, Err, IfOk, OnErr}
+use Rattle.std.specs.Option.{IsSome}
+use Rattle.core_syntax.specs.declared.node_id.NodeId.{NodeId}
+use Rattle.eval_step.specs.Evaluation.{Evaluation}
+use Rattle.serial_model.proofs.evaluation.Carries.{ask-is-inner}
+use Rattle.serial_model.specs.declared.answer.Answer.{Answer}
+use Rattle.serial_model.specs.declared.answer.Answer.TheVariants as answer
+use Rattle.serial_model.specs.declared.halt.Halt.{Halt}
+use Rattle.serial_model.specs.declared.halt.Halt.TheVariants as halt
+use Rattle.serial_model.specs.declared.request.Request.{Request}
+use Rattle.serial_model.specs.Eval.{next}
+use Rattle.task_fork_join.specs.Attempt.{AreTasks, IsInside, IsKept, IsRootAlone}
+use Rattle.task_fork_join.specs.Closing.{CameClose, IsClose, IsFinished}
+use Rattle.task_fork_join.specs.declared.closing.Went.{Went}
+use Rattle.task_fork_join.specs.declared.closing.Went.TheVariants as went
+use Rattle.task_fork_join.specs.declared.forking.Forked.{Forked}
+use Rattle.task_fork_join.specs.declared.joining.Met.{Met}
+use Rattle.task_fork_join.specs.declared.joining.Met.TheVariants as met
+use Rattle.task_fork_join.specs.declared.stepped.Stepped.{Stepped}
+use Rattle.task_fork_join.specs.declared.stepped.Stepped.TheVariants as stepped
+use Rattle.task_fork_join.specs.declared.task.Parts.{Parts}
+use Rattle.task_fork_join.specs.declared.task.Stage.{Stage as KeptStage}
+use Rattle.task_fork_join.specs.declared.task.Stage.TheVariants as stages
+use Rattle.task_fork_join.specs.declared.task.Task.{Task}
+use Rattle.task_fork_join.specs.declared.task_end.TaskEnd.{TaskEnd}
+use Rattle.task_fork_join.specs.declared.task_end.TaskEnd.TheVariants as end
+use Rattle.task_fork_join.specs.Forking.{CameFork, IsPut, forks, refused}
+use Rattle.task_fork_join.specs.Joining.{CameJoin, IsEnded, IsJoin}
+use Rattle.task_fork_join.specs.Step.{AsksInside, HaltsAt}
+use Rattle.task_fork_join.specs.Stepping.{Acted, CameReply, Gone, HasParts, IsActed, IsAnswered, IsGiven, IsWaiting}
+use Rattle.txn_snapshot.specs.declared.answered.Answered.{Answered}
+use Rattle.txn_snapshot.specs.declared.answered.Answered.TheVariants as answered
+use Rattle.value_core.proofs.NamedLaws.{each-put, named-here, named-with_named}
+use Rattle.value_core.specs.declared.code.Code.TheVariants as code
+use Rattle.value_core.specs.declared.value.Value.{Value as Datum}
+use Rattle.value_core.specs.declared.value.Value.TheVariants as value
+use Rattle.value_core.specs.Named.{Name, Named, named, same_name, with_named, IsChanged}
+
+-- what is there is there after an item is put
+some_put : {X : Type 0} (k name : Name) (x : X) (es : Named X) → IsSome (named k es) → IsSome (named k (with_named es name x))
+some_put {X} k name x es there = subst (λ (o : Option X). IsSome o) (sym (named-with_named k name x es)) (on (same_name k name))
+  where
+    on : (b : Bool) → IsSome (cond b (Some x) (named k es))
+    on true = refl
+    on false = there
+
+-- a task is put that is inside where it goes on
+put_keeps : (root name : Name) (t : Task) (es : Named Task) → AreTasks root es → IsInside t.stage → AreTasks root (with_named es name t)
+put_keeps root name t es are inside = record {
+  rooted = some_put root name t es are.rooted;
+  inside = each-put (λ n (s : Task). IsInside s.stage) name t es are.inside inside;
+}
+
+-- a task is changed to one that is inside where it goes on
+changed_keeps : (root name : Name) (old new : Named Task) (R : Task → Task → Type 0) → ((s t : Task) → R s t → IsInside t.stage)
+    → IsSome (named name old) → IsChanged name old new R → AreTasks root old → AreTasks root new
+changed_keeps root name old new R inside kept change are = on (named name old) refl kept
+  where
+    on : (o : Option Task) → named name old ≡ o → IsSome o → AreTasks root new
+    on None is never = absurd (cc)
+    on (Some t) is some = let to = change t is in subst (AreTasks root) (sym to.put) (put_keeps root name to.item old are (inside t to.item to.related))
+
+-- a task that is kept is there
+kept_some : (name : Name) (moved : Evaluation) (tasks : Named Task) → IsKept name moved tasks → IsSome (named name tasks)
+kept_some name moved tasks kept = subst (λ (o : Option Task). IsSome o) (sym kept.there) refl
+
+-- the machine of a task that is kept is inside
+pub kept_inside : (root name : Name) (moved : Evaluation) (tasks : Named Task) → AreTasks root tasks → IsKept name moved tasks → moved.inside ≡ true
+kept_inside root name moved tasks are kept = kept.same.task.inside ∙ subst IsInside kept.going (are.inside name kept.task kept.there)
+
+-- a request at which the machine of a task that is kept stands is none for a transaction
+pub asks_inside : (root name : Name) (moved : Evaluation) (tasks : Named Task) → AreTasks root tasks → IsKept name moved tasks → (halts : Halt) → HaltsAt moved halts → AsksInside moved halts
+asks_inside root name moved tasks are kept (halt.Ask asked at) is =
+    let halted = is tt in
+    let inside = kept_inside root name moved tasks are kept in (
+      halted.asking,
+      ask-is-inner halted.program moved.body moved.values moved.answers moved.fuel asked at
+          (ap (λ b. next halted.program moved.body moved.values b moved.answers moved.fuel) (sym inside) ∙ halted.comes),
+    )
+asks_inside root name moved tasks are kept (halt.Value v) is = tt
+asks_inside root name moved tasks are kept (halt.Fault code at) is = tt
+asks_inside root name moved tasks are kept halt.Spent is = tt
+
+-- a root alone is there, and inside
+pub root_keeps : (root : Name) (actor : Option Name) (machine : Evaluation) (tasks : Named Task) → machine.inside ≡ true → IsRootAlone root actor machine tasks → AreTasks root tasks
+root_keeps root actor machine tasks inside alone = subst (AreTasks root) (sym alone.tasks_are) (record {
+  rooted = subst (λ (o : Option Task). IsSome o) (sym (named-here root alone.task [])) refl;
+  inside = each-put (λ n (s : Task). IsInside s.stage) root alone.task [] (λ n s never. absurd (cc)) (subst IsInside (sym alone.goes) inside);
+})
+
+-- they are kept whether the call succeeds or leaves the tasks
+pub by_result : {X E : Type 0} (r : Result X E) (root : Name) (old new : Named Task) → IfOk r (λ _. AreTasks root new) → OnErr r (new ≡ old) → AreTasks root old → AreTasks root new
+by_result (Ok x) root old new done same are = done
+by_result (Err e) root old new done same are = subst (AreTasks root) (sym same) are
+
+-- that is the same task, which is inside where it goes on
+same_inside : (t u : Task) → t ≡ u → IsInside u.stage → IsInside t.stage
+same_inside t u same inside = subst (λ (s : Task). IsInside s.stage) (sym same) inside
+
+module _ (root name : Name) (moved : Evaluation) (old new : Named Task) (are : AreTasks root old) (kept : IsKept name moved old) (found : Stepped) where
+  changed : (R : Task → Task → Type 0) → ((s t : Task) → R s t → IsInside t.stage) → IsChanged name old new R → AreTasks root new
+  changed R inside change = changed_keeps root name old new R inside (kept_some name moved old kept) change are
+
+  moved_inside : moved.inside ≡ true
+  moved_inside = kept_inside root name moved old are kept
+
+  given_inside : (given : Answer) (machine : Evaluation) → IsGiven moved given machine → machine.inside ≡ true
+  given_inside given machine is = is.same.inside ∙ moved_inside
+
+  -- the task is there, and else as it was
+  gone : (stage : KeptStage) → IsInside stage → IsChanged name old new (Gone stage) → AreTasks root new
+  gone stage inside change = changed (Gone stage) (λ s t same. same_inside t (record s { stage = stage }) same inside) change
+
+  waits : (wait : Stepped) → IsWaiting name moved wait old new found → AreTasks root new
+  waits wait did = gone (stages.Going moved) moved_inside did.tasks
+
+  answered_keeps : (given : Answer) → IsAnswered name moved given old new found → AreTasks root new
+  answered_keeps given did = gone (stages.Going did.machine) (given_inside given did.machine did.given_so) did.tasks
+
+  pub ended_keeps : (e : TaskEnd) → IsEnded name e old new found → AreTasks root new
+  ended_keeps e did = gone (stages.Ended e) tt did.tasks
+
+  finished_keeps : (parts : Parts) (e : TaskEnd) → IsFinished name parts e old new found → AreTasks root new
+  finished_keeps parts e did = changed (HasParts parts (stages.Ended e)) (λ s t same. same_inside t (record { log = parts.log; knows = parts.knows; stage = stages.Ended e }) same tt) did.tasks
+
+  pub acted_keeps : (refs : Name → Option Datum) (asked : Request) (reads more : List Name) → IsActed refs name moved asked old reads new more found → AreTasks root new
+  acted_keeps refs asked reads more did = on did.reply did.came
+    where
+      on : (reply : Answered) → CameReply name moved asked reply did.log old reads new more found → AreTasks root new
+      on (answered.Now given) came = changed (Acted did.log (stages.Going came.machine))
+          (λ s t same. same_inside t (record s { log = did.log; stage = stages.Going came.machine }) same (given_inside given came.machine came.given_so)) came.tasks
+      on (answered.NotInSnapshot ref) came = waits (stepped.NotInSnapshot ref) came.waiting
+
+  pub join_keeps : (future : Name) (outer : Option Datum) → IsJoin name moved future outer old new found → AreTasks root new
+  join_keeps future outer did = on did.meets outer did.came
+    where
+      on : (meets : Met) (outer : Option Datum) → CameJoin name moved future outer meets old new found → AreTasks root new
+      on met.Unknown None came = waits (stepped.WaitJoin future) came
+      on met.Unknown (Some v) came = answered_keeps (answer.Value v) came
+      on met.Unfinished outer came = waits (stepped.WaitJoin future) came
+      on (met.First joined) outer came = changed (HasParts joined.parts (stages.Going came.machine))
+          (λ s t same. same_inside t (record { log = joined.parts.log; knows = joined.parts.knows; stage = stages.Going came.machine }) same (given_inside (answer.Value joined.value) came.machine came.given_so)) came.tasks
+      on (met.Again v) outer came = answered_keeps (answer.Value v) came
+      on (met.Ended e) outer came = ended_keeps e came
+
+  pub close_keeps : (v : Datum) → IsClose name moved v old new found → AreTasks root new
+  close_keeps v did = on did.closed.went did.came
+    where
+      on : (stop : Went) → CameClose name moved v did.closed.parts stop old new found → AreTasks root new
+      on went.On came = finished_keeps did.closed.parts (end.Value v) came
+      on (went.Waits future) came = waits (stepped.WaitJoin future) came
+      on (went.Ended e) came = finished_keeps did.closed.parts e came
+
+  -- the child is there, and the task goes on with its future
+  put_child : (f : Forked) (child : Evaluation) → child.inside ≡ true → IsPut name moved f child old new found → AreTasks root new
+  put_child f child inside did =
+      let fresh : Task = record { log = f.child.log; knows = f.child.knows; stage = stages.Going child } in
+      changed_keeps root name (with_named old f.future fresh) new (HasParts f.parent (stages.Going did.machine))
+      (λ s t same. same_inside t (record { log = f.parent.log; knows = f.parent.knows; stage = stages.Going did.machine }) same
+      (given_inside (answer.Value (value.Future f.future)) did.machine did.given_so))
+      (some_put name f.future fresh old (kept_some name moved old kept)) did.tasks (put_keeps root f.future fresh old are inside)
+
+  pub fork_keeps : (actor : Option Name) (fuel : ℕ) (body : NodeId) (values : List Datum) → CameFork name moved actor fuel body values old new found → AreTasks root new
+  fork_keeps actor fuel body values (forks did) = put_child did.fork did.child did.begun.inside did.put
+  fork_keeps actor fuel body values (refused did) = answered_keeps (answer.Fault code.ForkTooDeep) did.given
