@@ -24,6 +24,18 @@ pub fn apply(alloc: Global, op: Op, args: &[Value]) -> Result<Value, OpFault>
     }
 }
 
+/// The same for arguments that are given away: `conj`, `into`, `assoc` and `dissoc` change a collection where it lies, if
+/// nothing else holds it.
+pub fn apply_to_own(alloc: Global, op: Op, args: Vec<Value>) -> Result<Value, OpFault>
+    requires { IsTrue (takes_of op (length args.items)) }
+    ensures { Gives result (apply_of op args.items) }
+{
+    match own_rule(alloc, op, args) {
+        Ok(value) => limited(value),
+        Err(fault) => Err(fault),
+    }
+}
+
 fn limited(value: Value) -> Result<Value, OpFault>
     ensures { Gives result (limited (Ok value)) }
 {
@@ -31,6 +43,19 @@ fn limited(value: Value) -> Result<Value, OpFault>
         Ok(value)
     } else {
         Err(OpFault::TooDeep)
+    }
+}
+
+// What the primitive gives for arguments that are given away, with no bound on depth.
+fn own_rule(alloc: Global, op: Op, args: Vec<Value>) -> Result<Value, OpFault>
+    ensures { Gives result (rule_of op args.items) }
+{
+    match op {
+        Op::Conj => parts::conj(alloc, args),
+        Op::Into => parts::into(alloc, args),
+        Op::Assoc => entries::assoc(alloc, args),
+        Op::Dissoc => entries::dissoc(alloc, args),
+        _ => rule(alloc, op, &args),
     }
 }
 
@@ -71,9 +96,9 @@ fn rule(alloc: Global, op: Op, args: &[Value]) -> Result<Value, OpFault>
         Op::Count => parts::count(args),
         Op::Get => parts::get(alloc, args),
         Op::Nth => parts::nth(alloc, args),
-        Op::Conj => parts::conj(alloc, args),
-        Op::Assoc => entries::assoc(alloc, args),
-        Op::Dissoc => entries::dissoc(alloc, args),
+        Op::Conj => parts::conj(alloc, parts::copies(alloc, args)?),
+        Op::Assoc => entries::assoc(alloc, parts::copies(alloc, args)?),
+        Op::Dissoc => entries::dissoc(alloc, parts::copies(alloc, args)?),
         Op::Contains => parts::contains(alloc, args),
         Op::Keys => parts::keys(alloc, args),
         Op::Vals => parts::vals(alloc, args),
@@ -82,7 +107,7 @@ fn rule(alloc: Global, op: Op, args: &[Value]) -> Result<Value, OpFault>
         Op::Rest => parts::rest(alloc, args),
         Op::IsEmpty => parts::empty(args),
         Op::Subvec => parts::subvec(alloc, args),
-        Op::Into => parts::into(alloc, args),
+        Op::Into => parts::into(alloc, parts::copies(alloc, args)?),
         Op::Str => string(alloc, args),
     }
 }
