@@ -1,5 +1,6 @@
 pub mod Comings
 pub mod Crossing
+pub mod Frames
 pub mod Goings
 pub mod Machines
 pub mod Nodes
@@ -8,5 +9,6 @@ pub mod Outs
 pub mod Returns
 pub mod Rows
 pub mod Runs
+pub mod Spared
 pub mod Taking
 pub mod Walks

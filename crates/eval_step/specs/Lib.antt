@@ -4,4 +4,5 @@ pub mod Finish
 pub mod Frame
 pub mod Resume
 pub mod Steps
+pub mod Unread
 pub mod Walk

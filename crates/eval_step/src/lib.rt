@@ -16,6 +16,7 @@ mod outcome;
 mod resuming;
 mod sameness;
 mod stack;
+mod unread;
 mod values;
 mod walk;
 

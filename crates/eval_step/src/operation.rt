@@ -13,7 +13,7 @@ use serial_model::Request;
 use std::alloc::{AllocError, Global};
 use value_core::lists::copy_list;
 use value_core::{Code, Dict, Key, KeyNo, Op, Value};
-use value_ops::{OpFault, apply, takes};
+use value_ops::{OpFault, apply_to_own, takes};
 use value_print::print_line;
 
 /// What the node does in its frame with these values, the hidden arguments and then the others.
@@ -33,10 +33,10 @@ pub fn operate(
         Node::Str(text) => Ok(Outcome::Gives(Value::Str(text.copy(alloc)?))),
         Node::Kw(name) => Ok(Outcome::Gives(Value::Kw(name.copy(alloc)?))),
         Node::Local(place) => Ok(Outcome::Gives(local(alloc, frame, *place)?)),
-        Node::Vector(_) => applied(alloc, Op::Vector, given),
+        Node::Vector(_) => applied(alloc, Op::Vector, values.into_values()),
         Node::Map(_) => mapped(alloc, given),
         Node::Call(number, _, _) => Ok(Outcome::Calls(*number, values)),
-        Node::Op(op, _) => applied(alloc, *op, given),
+        Node::Op(op, _) => applied(alloc, *op, values.into_values()),
         Node::Println(_) => Ok(Outcome::Asks(Request::Print(print_line(alloc, given)?))),
         Node::Ref(_) => new_ref(alloc, given),
         Node::Deref(_) => deref(alloc, given),
@@ -59,13 +59,13 @@ pub fn operate(
 }
 
 // The primitive with these arguments.
-fn applied(alloc: Global, op: Op, values: &[Value]) -> Result<Outcome, AllocError>
-    ensures { IfOk result (λ outcome. meaning outcome ≡ applied_of op values.now) }
+fn applied(alloc: Global, op: Op, values: Vec<Value>) -> Result<Outcome, AllocError>
+    ensures { IfOk result (λ outcome. meaning outcome ≡ applied_of op values.items) }
 {
     if !takes(op, values.len()) {
         return Ok(Outcome::Faults(Code::WrongType));
     }
-    match apply(alloc, op, values) {
+    match apply_to_own(alloc, op, values) {
         Ok(value) => Ok(Outcome::Gives(value)),
         Err(OpFault::WrongType) => Ok(Outcome::Faults(Code::WrongType)),
         Err(OpFault::DivideByZero) => Ok(Outcome::Faults(Code::DivideByZero)),
