@@ -1,7 +1,8 @@
 -- Frames that differ at most at one place.
-use Rattle.std.proofs.Common.{eq-eqb, ◌≡◌, ◌≢◌, ◌∙◌, ℕ, zero, suc, ◌-◌, Bool, true, false, ◌||◌, List, [], ◌∷◌, ◌++◌, length, take, set, refl, sym, ap, subst}
+use Rattle.std.proofs.Common.{eq-eqb, ◌≡◌, ◌≢◌, ◌∙◌, ℕ, zero, suc, ◌-◌, ◌<◌, get_or, Bool, true, false, ◌||◌, List, [], ◌∷◌, ◌++◌, length, take, set, refl, sym, ap, subst}
 use Rattle.std.specs.Prelude.{◌==◌, Some, unwrap_or}
 use Rattle.std.specs.List.{slice_get}
+use Rattle.std.proofs.lemmas.Option.{slice_get_read}
 use Rattle.value_core.specs.declared.value.Value.{Value}
 use Rattle.value_core.specs.declared.value.Value.TheVariants as value
 use Rattle.core_syntax.specs.declared.node.Node.{Node}
@@ -55,7 +56,10 @@ agree-shorter count place frame other agree =
     subst (λ n. AgreeBut place (take (length frame - count) frame) (take (n - count) other)) (agree-length place frame other agree)
     (agree-take (length frame - count) place frame other agree)
 
--- ---- what stands at another place
+-- ---- what stands at a place
+pub local-read : (values : List Value) (place : ℕ) (x : Value) → place < length values → x ≡ get_or values place x → x ≡ local_value values place
+local-read values place x within is = sym (ap (λ found. unwrap_or found value.Nil) (slice_get_read values (length values) place x refl within is))
+
 agree-get : (q place : ℕ) (frame other : List Value) → q ≢ place → AgreeBut place frame other → slice_get frame q ≡ slice_get other q
 agree-get q place [] [] differ agree = refl
 agree-get q place [] (w ∷ other) differ agree = absurd agree

@@ -3,6 +3,7 @@ pub mod Crossing
 pub mod Frames
 pub mod Goings
 pub mod Machines
+pub mod Marks
 pub mod Nodes
 pub mod Outcomes
 pub mod Outs

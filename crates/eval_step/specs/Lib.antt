@@ -2,6 +2,7 @@ pub mod Answered
 pub mod Evaluation
 pub mod Finish
 pub mod Frame
+pub mod Known
 pub mod Resume
 pub mod Steps
 pub mod Unread

@@ -12,9 +12,9 @@ use crate::context::Context;
 use crate::control::Control;
 use crate::frame::Frame;
 use crate::item::Item;
+use crate::known::Known;
 use crate::operation::operate;
 use crate::outcome::Outcome;
-use crate::values::local;
 use core_syntax::{Node, NodeId, Program, Step};
 use serial_model::Halt;
 use std::alloc::{AllocError, Global};
@@ -68,7 +68,7 @@ impl Context {
 
     // The value at that place of the frame, and nil outside it. A collection or a text that nothing reads again is taken
     // out of the frame, so that it can be changed where it lies.
-    fn local(&mut self, alloc: Global, program: &Program, place: u32) -> Result<Value, AllocError>
+    fn local(&mut self, alloc: Global, program: &Program, place: u32) -> Result<Known, AllocError>
         requires { ItemsIn program.now self.old }
         ensures value { IfOk result (λ value. value ≡ local_value self.old.frame place) }
         ensures alike { OnOk result (GoesOnAlike program.now self.old self.new) }
@@ -76,7 +76,7 @@ impl Context {
         if self.frame.owns_memory(place) && self.is_unread(program, place) {
             return Ok(self.frame.take(place));
         }
-        local(alloc, self.frame.values(), place)
+        self.frame.local(alloc, place)
     }
 
     // Enters the transaction with this body, which inside one is its body alone.
@@ -111,7 +111,7 @@ impl Context {
         requires items { ItemsIn program.now self.old }
         ensures { IfOk result (EntersArguments program.now id self.old self.new) }
     {
-        let values = hidden(alloc, program.node(id), self.frame.values())?;
+        let values = hidden(alloc, program.node(id), &self.frame)?;
         self.take_argument(alloc, program, id, values, 0)
     }
 
@@ -187,7 +187,7 @@ impl Context {
     {
         let parts = parts_of(program.node(id));
         if number >= parts.len() {
-            return Ok(Control::Deliver(Value::Nil));
+            return Ok(Control::Deliver(Known::unseen(Value::Nil)));
         }
         if number + 1 < parts.len() {
             self.stack.push(Item::Do(id, number + 1))?;
@@ -208,7 +208,7 @@ impl Context {
         ensures { IfOk result (TakesBound program.now id number self.old self.new) }
     {
         let Node::Let(bound, body) = program.node(id) else {
-            return Ok(Control::Deliver(Value::Nil));
+            return Ok(Control::Deliver(Known::unseen(Value::Nil)));
         };
         let bound = bound.items();
         if number < bound.len() {

@@ -10,6 +10,7 @@ mod copies;
 mod entering;
 mod frame;
 mod item;
+mod known;
 mod machine;
 mod operation;
 mod outcome;
