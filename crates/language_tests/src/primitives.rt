@@ -1,7 +1,7 @@
 use std::alloc::{AllocError, Global};
 use std::test::Fail;
 use value_core::{Dict, Key, Name, Op, Seq, Value, Values};
-use value_ops::{OpFault, apply, op_named, takes};
+use value_ops::{OpFault, apply, apply_to_own, op_named, takes};
 use value_print::readable;
 
 // A row: the word of a primitive, its arguments, and the readable text of the value or the name of the fault that it
@@ -321,6 +321,51 @@ fn keys_of_maps_and_vectors(rt: HostRuntime) -> Result<(), Fail> {
     ];
     for row in table {
         assert!(rt; is_given(rt.alloc(), row)?, "{:?} {:?}", row.0, row.1);
+    }
+    Ok(())
+}
+
+// The values in a list of its own.
+fn own_values_of(alloc: Global, words: &[u8]) -> Result<Vec<Value>, AllocError> {
+    let values = values_of(alloc, words)?;
+    let mut own = Vec::new(alloc);
+    for value in values.items() {
+        own.push(value.copy(alloc)?).map_err(|_| AllocError)?;
+    }
+    Ok(own)
+}
+
+fn is_given_to_own(alloc: Global, (word, args, expected): Row) -> Result<bool, AllocError> {
+    let Some(op) = op_named(word) else {
+        return Ok(false);
+    };
+    let args = own_values_of(alloc, args)?;
+    if !takes(op, args.len()) {
+        return Ok(false);
+    }
+    match apply_to_own(alloc, op, args, false) {
+        Ok(value) => Ok(readable(alloc, &value)?.items() == expected),
+        Err(fault) => Ok(name_of(fault) == expected),
+    }
+}
+
+#[test]
+fn arguments_that_are_given_away(rt: HostRuntime) -> Result<(), Fail> {
+    let table: [Row; 6] = [
+        (b"conj", b"[1 2 3", b"[1 2 3]"),
+        (b"into", b"[1 [2,3", b"[1 2 3]"),
+        (b"assoc", b"map :a 7 :a 8", b"{:a 8, \"b\" 2}"),
+        (b"assoc", b"[1,2 3 9", b"Index"),
+        (b"dissoc", b"map :a 4 nil", b"{\"b\" 2}"),
+        (b"+", b"1 2 -4", b"-1"),
+    ];
+    for row in table {
+        assert!(rt;
+            is_given_to_own(rt.alloc(), row)?,
+            "{:?} {:?}",
+            row.0,
+            row.1
+        );
     }
     Ok(())
 }
