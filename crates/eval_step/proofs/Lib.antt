@@ -1,12 +1,15 @@
 pub mod Comings
 pub mod Crossing
+pub mod Frames
 pub mod Goings
 pub mod Machines
+pub mod Marks
 pub mod Nodes
 pub mod Outcomes
 pub mod Outs
 pub mod Returns
 pub mod Rows
 pub mod Runs
+pub mod Spared
 pub mod Taking
 pub mod Walks

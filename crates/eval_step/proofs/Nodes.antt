@@ -1,7 +1,7 @@
 -- A node is entered, or a body begins.
 use Rattle.std.proofs.lemmas.List.Elements.{All-nil, All-head, All-tail}
 use Rattle.core_syntax.specs.WellFormed.{IsBelow, ChildrenBelow}
-use Rattle.std.proofs.Common.{eq-eqb, ◌≡◌, ◌≢◌, ◌∙◌, ℕ, ◌<◌, Bool, true, false, List, [], ◌∷◌, length, refl, sym, ap, subst, arith}
+use Rattle.std.proofs.Common.{eq-eqb, ◌≡◌, ◌≢◌, ◌∙◌, ℕ, ◌+◌, ◌*◌, ◌<◌, ◌≤◌, Bool, true, false, List, [], ◌∷◌, length, refl, sym, ap, subst, arith}
 use Rattle.std.specs.Prelude.{All, Some}
 use Rattle.std.specs.List.{slice_get}
 use Rattle.value_core.specs.Place.{Spot}
@@ -13,6 +13,7 @@ use Rattle.core_syntax.specs.declared.step.Step.{Step}
 use Rattle.core_syntax.specs.Table.{Table, node_at}
 use Rattle.serial_model.specs.declared.answer.Answer.{Answer}
 use Rattle.serial_model.specs.Eval.{Out, Evals, then_go, level, by_arguments, dosync, in_turn, begin_at, run_steps, turn}
+use Rattle.serial_model.specs.Operation.{local_value}
 use Rattle.eval_step.specs.declared.context.Context.{Context}
 use Rattle.eval_step.specs.declared.control.Control.{Control}
 use Rattle.eval_step.specs.declared.control.Control.TheVariants as control
@@ -20,6 +21,7 @@ use Rattle.eval_step.specs.declared.item.Item.{Item}
 use Rattle.eval_step.specs.declared.item.Item.TheVariants as item
 use Rattle.eval_step.specs.Resume.{run, resume, parts_on, bound_on, steps_on}
 use Rattle.eval_step.specs.Steps.{argued, entered, Begins, Enters, EntersArguments, TakesPart, TakesBound, TakesStep}
+use Rattle.eval_step.specs.Unread.{GoesOnAlike}
 use Rattle.eval_step.specs.Walk.{ItemIn}
 use Rattle.eval_step.proofs.Comings.{comes_to_pushed, comes_to_node}
 use Rattle.eval_step.proofs.Outs.{then_go-assoc, then_go-nothing}
@@ -171,3 +173,21 @@ module _ (table : Table) (frame : List Value) (stack : List Item) (empty : stack
       on (node.Main steps) at fuel answers main turned = absurd (main steps refl)
       on (node.Turn takes inner) at fuel answers main turned = absurd (turned takes inner refl)
       on other at fuel answers main turned = refl
+
+-- a local is read, in a context that goes on alike with its value
+pub enters_local : (table : Table) (inside : Bool) (frame : List Value) (stack : List Item) (items : All (ItemIn (length table.nodes)) stack) (id : NodeId) (which : Node) (seen : node_at table.nodes id ≡ Some which)
+    (place : ℕ) (v : Value) (new : Context) → which ≡ node.Local place → v ≡ local_value frame place → GoesOnAlike table (record { frame = frame; stack = stack }) new
+    → Enters table inside id (record { frame = frame; stack = stack }) new (control.Deliver v)
+enters_local table inside frame stack items id which seen place v new is read alike =
+    let r = row_at table.nodes id which seen in
+    let P : List Item → Type 0 = λ s. 2 * length s + 2 ≤ 2 * length stack + 3 in
+    record {
+      same = λ fuel answers.
+          enters_node table inside frame stack items id which seen r.at fuel answers r.found
+          ∙ ap (λ n. then_go (level table inside (run table inside) frame r.at n fuel answers) (resume table inside frame stack)) is
+          ∙ ap (λ w. resume table inside frame stack w fuel answers) (sym read)
+          ∙ alike.same inside v fuel answers
+          ∙ ap (λ s. resume table inside new.frame s v fuel answers) (sym alike.stack);
+      there = record { items = subst (All (ItemIn (length table.nodes))) (sym alike.stack) items; here = tt };
+      small = subst P (sym alike.stack) (omega arith);
+    }

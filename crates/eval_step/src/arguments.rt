@@ -7,7 +7,6 @@ use crate::frame::Frame;
 use crate::values::locals;
 use core_syntax::{Node, NodeId, NodeIds};
 use std::alloc::{AllocError, Global};
-use value_core::Value;
 
 /// The argument of the node with that number, from 0.
 pub fn argument(node: &Node, number: usize) -> Option<NodeId>
@@ -63,7 +62,7 @@ fn listed_behind(first: NodeId, ids: &NodeIds, number: usize) -> Option<NodeId>
 }
 
 /// The values that stand before the arguments of the node: the hidden arguments, which are taken from the frame.
-pub fn hidden(alloc: Global, node: &Node, frame: &[Value]) -> Result<Frame, AllocError>
+pub fn hidden(alloc: Global, node: &Node, frame: &Frame) -> Result<Frame, AllocError>
     ensures { IfOk result (λ values. values ≡ hidden_of frame.now node.now) }
 {
     match node {

@@ -2,10 +2,11 @@ ghost use Rattle.std.specs.Prelude.{◌≡◌, IfOk};
 ghost use Rattle.eval_step.specs.declared.control.Control.TheVariants.{Halted};
 ghost use Rattle.eval_step.specs.Answered.{answered, behind, halt_answered};
 
+use crate::known::Known;
 use core_syntax::NodeId;
 use serial_model::{Answer, Halt};
 use std::alloc::{AllocError, Global};
-use value_core::{Place, Value};
+use value_core::Place;
 
 /// Where a machine stands.
 #[derive(Drop)]
@@ -15,7 +16,7 @@ pub enum Control {
     /// Before a node.
     Enter(NodeId),
     /// Behind a node, with its value.
-    Deliver(Value),
+    Deliver(Known),
     /// Where it stops.
     Halted(Halt),
     /// Where memory was wanting.
@@ -58,7 +59,7 @@ fn behind(answer: Answer, at: Place) -> Control
     ensures { result ≡ behind answer at }
 {
     match answer {
-        Answer::Value(value) => Control::Deliver(value),
+        Answer::Value(value) => Control::Deliver(Known::unseen(value)),
         Answer::Fault(code) => Control::Halted(Halt::Fault(code, at)),
     }
 }

@@ -3,7 +3,6 @@ ghost use Rattle.eval_step.specs.Walk.{FailedAt};
 
 use crate::context::Context;
 use crate::control::Control;
-use crate::frame::Frame;
 use crate::item::Item;
 use crate::stack::Stack;
 use crate::walk::Walk;
@@ -28,7 +27,7 @@ fn copy_context(alloc: Global, context: &Context) -> Result<Context, AllocError>
     ensures { IfOk result (λ copied. copied ≡ context.now) }
 {
     Ok(Context {
-        frame: Frame::copied(alloc, context.frame.values())?,
+        frame: context.frame.copy(alloc)?,
         stack: copy_stack(alloc, &context.stack)?,
     })
 }
@@ -60,10 +59,10 @@ fn copy_item(alloc: Global, item: &Item) -> Result<Item, AllocError>
     ensures { IfOk result (λ copied. copied ≡ item.now) }
 {
     match item {
-        Item::Back(frame) => Ok(Item::Back(Frame::copied(alloc, frame.values())?)),
+        Item::Back(frame) => Ok(Item::Back(frame.copy(alloc)?)),
         Item::Shrink(count) => Ok(Item::Shrink(*count)),
         Item::Arguments(id, values, next) => {
-            let values = Frame::copied(alloc, values.values())?;
+            let values = values.copy(alloc)?;
             Ok(Item::Arguments(*id, values, *next))
         }
         Item::Choose(taken, other) => Ok(Item::Choose(*taken, *other)),

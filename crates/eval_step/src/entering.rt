@@ -1,8 +1,10 @@
-ghost use Rattle.std.specs.Prelude.{◌≡◌, ◌<◌, [], length, IfOk, Some};
+ghost use Rattle.std.specs.Prelude.{◌≡◌, ◌<◌, [], length, IfOk, OnOk, Some};
 ghost use Rattle.core_syntax.specs.declared.node.Node.TheVariants as node;
 ghost use Rattle.core_syntax.specs.Table.{node_at, steps_of as main_steps};
 ghost use Rattle.eval_step.specs.Resume.{parts_of as do_parts};
 ghost use Rattle.eval_step.specs.Steps.{Begins, Enters, EntersArguments, TakesArgument, Operates, CallsBody, TakesPart, TakesBound, TakesStep};
+ghost use Rattle.serial_model.specs.Operation.{local_value};
+ghost use Rattle.eval_step.specs.Unread.{GoesOnAlike};
 ghost use Rattle.eval_step.specs.Walk.{ItemsIn};
 
 use crate::arguments::{argument, hidden};
@@ -10,6 +12,7 @@ use crate::context::Context;
 use crate::control::Control;
 use crate::frame::Frame;
 use crate::item::Item;
+use crate::known::Known;
 use crate::operation::operate;
 use crate::outcome::Outcome;
 use core_syntax::{Node, NodeId, Program, Step};
@@ -58,8 +61,22 @@ impl Context {
             }
             Node::Let(_, _) => self.take_bound(program, id, 0),
             Node::Dosync(body) => self.enter_transaction(alloc, program, inside, id, *body),
+            Node::Local(place) => Ok(Control::Deliver(self.local(alloc, program, *place)?)),
             _ => self.enter_arguments(alloc, program, id),
         }
+    }
+
+    // The value at that place of the frame, and nil outside it. A collection or a text that nothing reads again is taken
+    // out of the frame, so that it can be changed where it lies.
+    fn local(&mut self, alloc: Global, program: &Program, place: u32) -> Result<Known, AllocError>
+        requires { ItemsIn program.now self.old }
+        ensures value { IfOk result (λ value. value ≡ local_value self.old.frame place) }
+        ensures alike { OnOk result (GoesOnAlike program.now self.old self.new) }
+    {
+        if self.frame.owns_memory(place) && self.is_unread(program, place) {
+            return Ok(self.frame.take(place));
+        }
+        self.frame.local(alloc, place)
     }
 
     // Enters the transaction with this body, which inside one is its body alone.
@@ -94,7 +111,7 @@ impl Context {
         requires items { ItemsIn program.now self.old }
         ensures { IfOk result (EntersArguments program.now id self.old self.new) }
     {
-        let values = hidden(alloc, program.node(id), self.frame.values())?;
+        let values = hidden(alloc, program.node(id), &self.frame)?;
         self.take_argument(alloc, program, id, values, 0)
     }
 
@@ -170,7 +187,7 @@ impl Context {
     {
         let parts = parts_of(program.node(id));
         if number >= parts.len() {
-            return Ok(Control::Deliver(Value::Nil));
+            return Ok(Control::Deliver(Known::unseen(Value::Nil)));
         }
         if number + 1 < parts.len() {
             self.stack.push(Item::Do(id, number + 1))?;
@@ -191,7 +208,7 @@ impl Context {
         ensures { IfOk result (TakesBound program.now id number self.old self.new) }
     {
         let Node::Let(bound, body) = program.node(id) else {
-            return Ok(Control::Deliver(Value::Nil));
+            return Ok(Control::Deliver(Known::unseen(Value::Nil)));
         };
         let bound = bound.items();
         if number < bound.len() {

@@ -10,12 +10,14 @@ mod copies;
 mod entering;
 mod frame;
 mod item;
+mod known;
 mod machine;
 mod operation;
 mod outcome;
 mod resuming;
 mod sameness;
 mod stack;
+mod unread;
 mod values;
 mod walk;
 

@@ -6,6 +6,7 @@ ghost use Rattle.value_core.specs.primitives.Apply.{limited as limited_of};
 ghost use Rattle.eval_step.specs.Finish.{finish, meaning};
 
 use crate::frame::Frame;
+use crate::known::Known;
 use crate::outcome::Outcome;
 use crate::values::{local, some_future};
 use core_syntax::Node;
@@ -13,7 +14,7 @@ use serial_model::Request;
 use std::alloc::{AllocError, Global};
 use value_core::lists::copy_list;
 use value_core::{Code, Dict, Key, KeyNo, Op, Value};
-use value_ops::{OpFault, apply, takes};
+use value_ops::{OpFault, apply_to_own, takes};
 use value_print::print_line;
 
 /// What the node does in its frame with these values, the hidden arguments and then the others.
@@ -28,15 +29,15 @@ pub fn operate(
 {
     let given = values.values();
     match node {
-        Node::Bool(truth) => Ok(Outcome::Gives(Value::Bool(*truth))),
-        Node::Int(number) => Ok(Outcome::Gives(Value::Int(*number))),
-        Node::Str(text) => Ok(Outcome::Gives(Value::Str(text.copy(alloc)?))),
-        Node::Kw(name) => Ok(Outcome::Gives(Value::Kw(name.copy(alloc)?))),
-        Node::Local(place) => Ok(Outcome::Gives(local(alloc, frame, *place)?)),
-        Node::Vector(_) => applied(alloc, Op::Vector, given),
+        Node::Bool(truth) => Ok(Outcome::Gives(Known::unseen(Value::Bool(*truth)))),
+        Node::Int(number) => Ok(Outcome::Gives(Known::unseen(Value::Int(*number)))),
+        Node::Str(text) => Ok(Outcome::Gives(Known::unseen(Value::Str(text.copy(alloc)?)))),
+        Node::Kw(name) => Ok(Outcome::Gives(Known::unseen(Value::Kw(name.copy(alloc)?)))),
+        Node::Local(place) => Ok(Outcome::Gives(Known::unseen(local(alloc, frame, *place)?))),
+        Node::Vector(_) => applied(alloc, Op::Vector, values),
         Node::Map(_) => mapped(alloc, given),
         Node::Call(number, _, _) => Ok(Outcome::Calls(*number, values)),
-        Node::Op(op, _) => applied(alloc, *op, given),
+        Node::Op(op, _) => applied(alloc, *op, values),
         Node::Println(_) => Ok(Outcome::Asks(Request::Print(print_line(alloc, given)?))),
         Node::Ref(_) => new_ref(alloc, given),
         Node::Deref(_) => deref(alloc, given),
@@ -54,19 +55,20 @@ pub fn operate(
         )),
         Node::Send(_, _) => send(alloc, given),
         Node::SelfActor => Ok(Outcome::Asks(Request::SelfActor)),
-        _ => Ok(Outcome::Gives(Value::Nil)),
+        _ => Ok(Outcome::Gives(Known::unseen(Value::Nil))),
     }
 }
 
 // The primitive with these arguments.
-fn applied(alloc: Global, op: Op, values: &[Value]) -> Result<Outcome, AllocError>
-    ensures { IfOk result (λ outcome. meaning outcome ≡ applied_of op values.now) }
+fn applied(alloc: Global, op: Op, values: Frame) -> Result<Outcome, AllocError>
+    ensures { IfOk result (λ outcome. meaning outcome ≡ applied_of op values) }
 {
-    if !takes(op, values.len()) {
+    if !takes(op, values.values().len()) {
         return Ok(Outcome::Faults(Code::WrongType));
     }
-    match apply(alloc, op, values) {
-        Ok(value) => Ok(Outcome::Gives(value)),
+    let first_is_shallow = values.first_is_shallow();
+    match apply_to_own(alloc, op, values.into_values(), first_is_shallow) {
+        Ok(value) => Ok(Outcome::Gives(Known::new(value, true))),
         Err(OpFault::WrongType) => Ok(Outcome::Faults(Code::WrongType)),
         Err(OpFault::DivideByZero) => Ok(Outcome::Faults(Code::DivideByZero)),
         Err(OpFault::Overflow) => Ok(Outcome::Faults(Code::Overflow)),
@@ -108,7 +110,7 @@ fn limited(value: Value) -> Outcome
     ensures { meaning result ≡ action_of (limited_of (Ok value)) }
 {
     if value.depth() <= 200 {
-        Outcome::Gives(value)
+        Outcome::Gives(Known::new(value, true))
     } else {
         Outcome::Faults(Code::TooDeep)
     }

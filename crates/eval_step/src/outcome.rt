@@ -1,11 +1,12 @@
 use crate::frame::Frame;
+use crate::known::Known;
 use serial_model::Request;
-use value_core::{Code, Value};
+use value_core::Code;
 
 /// What the operation of a node comes to.
 #[derive(Drop)]
 pub enum Outcome {
-    Gives(Value),
+    Gives(Known),
     Faults(Code),
     Asks(Request),
     /// A call of the function with that number, in that frame.

@@ -7,6 +7,7 @@ ghost use Rattle.eval_step.specs.Walk.{ItemIn, ItemsIn};
 use crate::context::Context;
 use crate::control::Control;
 use crate::item::Item;
+use crate::known::Known;
 use crate::values::is_false;
 use core_syntax::{NodeId, Program};
 use serial_model::Halt;
@@ -19,14 +20,14 @@ impl Context {
         &mut self,
         alloc: Global,
         program: &Program,
-        value: Value,
+        value: Known,
     ) -> Result<Control, AllocError>
         requires { ItemsIn program.now self.old }
         ensures { IfOk result (Delivers program.now value self.old self.new) }
     {
         match self.stack.pop() {
             Some(item) => self.resume(alloc, program, item, value),
-            None => Ok(Control::Halted(Halt::Value(value))),
+            None => Ok(Control::Halted(Halt::Value(value.into_value()))),
         }
     }
 
@@ -36,7 +37,7 @@ impl Context {
         alloc: Global,
         program: &Program,
         item: Item,
-        value: Value,
+        value: Known,
     ) -> Result<Control, AllocError>
         requires item { ItemIn (length program.now.nodes) item }
         requires items { ItemsIn program.now self.old }
@@ -56,7 +57,9 @@ impl Context {
                 values.push(value)?;
                 self.take_argument(alloc, program, id, values, next)
             }
-            Item::Choose(taken, other) => { Ok(Control::Enter(branch(&value, taken, other))) }
+            Item::Choose(taken, other) => {
+                Ok(Control::Enter(branch(value.value(), taken, other)))
+            }
             Item::Do(id, next) => self.take_part(program, id, next),
             Item::Let(id, next) => {
                 self.frame.push(value)?;
@@ -70,7 +73,7 @@ impl Context {
     }
 
     // Appends the value to the frame, if that is so.
-    fn bind(&mut self, value: Value, binds: bool) -> Result<(), AllocError>
+    fn bind(&mut self, value: Known, binds: bool) -> Result<(), AllocError>
         ensures frame { OnOk result (self.new.frame ≡ with_value binds self.old.frame value) }
         ensures stack { OnOk result (self.new.stack ≡ self.old.stack) }
     {

@@ -1,4 +1,6 @@
 ghost use Rattle.std.specs.Prelude.{◌≡◌, [], ◌∷◌, reverse, OnOk, MatchOption};
+ghost use Rattle.std.specs.List.{slice_get};
+ghost use Rattle.std.specs.Option.{option_copied};
 ghost use Rattle.eval_step.specs.Resume.{needs_frame};
 
 use crate::item::Item;
@@ -53,6 +55,13 @@ impl Stack {
         ensures { reverse result.now ≡ self.now }
     {
         self.items.as_slice()
+    }
+
+    /// The item that comes after so many others.
+    pub fn item(&self, depth: usize) -> Option<&Item>
+        ensures { option_copied result ≡ slice_get self.now depth }
+    {
+        self.items.iter().rev().nth(depth)
     }
 
     /// Whether the current frame is looked at again once the node that is evaluated has its value.

@@ -29,12 +29,12 @@ pub fn local(alloc: Global, frame: &[Value], place: u32) -> Result<Value, AllocE
 }
 
 /// The values at these places of a frame.
-pub fn locals(alloc: Global, frame: &[Value], places: &Locals) -> Result<Frame, AllocError>
+pub fn locals(alloc: Global, frame: &Frame, places: &Locals) -> Result<Frame, AllocError>
     ensures { IfOk result (λ values. values ≡ hidden_values frame.now places.now) }
 {
     let mut values = Frame::new(alloc);
     for place in places.items() {
-        values.push(local(alloc, frame, *place)?)?;
+        values.push(frame.local(alloc, *place)?)?;
     }
     Ok(values)
 }

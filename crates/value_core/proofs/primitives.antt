@@ -1,3 +1,4 @@
 pub mod Carries
 pub mod EntrySteps
+pub mod Making
 pub mod Same

@@ -9,21 +9,22 @@ ghost use Rattle.value_core.specs.primitives.Parts.{paired, assoc_step, put_rule
 
 use crate::OpFault;
 use crate::ints::{int_of, is_int};
-use crate::parts::{key_of, push};
+use crate::parts::{first_of, key_of, push};
 use std::alloc::Global;
 use value_core::{Dict, Pairs, Value, Values};
 
 /// `assoc`
-pub(crate) fn assoc(alloc: Global, args: &[Value]) -> Result<Value, OpFault>
-    ensures { Gives result (of_first (λ c more. assoc_step (out-Value c) (paired more)) args.now) }
+pub(crate) fn assoc(alloc: Global, args: Vec<Value>) -> Result<Value, OpFault>
+    ensures { Gives result (of_first (λ c more. assoc_step (out-Value c) (paired more)) args.items) }
 {
-    let Some((collection, entries)) = args.split_first() else {
+    let Some(parts) = first_of(args) else {
         return Err(OpFault::WrongType);
     };
-    match collection.copy(alloc)? {
-        Value::Nil => put_entries(alloc, Dict::new(alloc), entries),
-        Value::Map(pairs) => put_entries(alloc, pairs, entries),
-        Value::Vector(items) => place_entries(alloc, items, entries),
+    let (collection, entries) = parts;
+    match collection {
+        Value::Nil => put_entries(alloc, Dict::new(alloc), &entries),
+        Value::Map(pairs) => put_entries(alloc, pairs, &entries),
+        Value::Vector(items) => place_entries(alloc, items, &entries),
         _ => Err(OpFault::WrongType),
     }
 }
@@ -94,15 +95,16 @@ fn place(alloc: Global, items: &mut Values, number: i64, value: &Value) -> Resul
 }
 
 /// `dissoc`
-pub(crate) fn dissoc(alloc: Global, args: &[Value]) -> Result<Value, OpFault>
-    ensures { Gives result (of_first (λ c keys. dissoc_step (out-Value c) keys) args.now) }
+pub(crate) fn dissoc(alloc: Global, args: Vec<Value>) -> Result<Value, OpFault>
+    ensures { Gives result (of_first (λ c keys. dissoc_step (out-Value c) keys) args.items) }
 {
-    let Some((collection, keys)) = args.split_first() else {
+    let Some(parts) = first_of(args) else {
         return Err(OpFault::WrongType);
     };
-    match collection.copy(alloc)? {
+    let (collection, keys) = parts;
+    match collection {
         Value::Nil => Ok(Value::Nil),
-        Value::Map(pairs) => without(alloc, pairs, keys),
+        Value::Map(pairs) => without(alloc, pairs, &keys),
         _ => Err(OpFault::WrongType),
     }
 }

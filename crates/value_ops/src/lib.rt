@@ -8,6 +8,6 @@ mod parts;
 mod table;
 mod words;
 
-pub use table::apply;
+pub use table::{apply, apply_to_own};
 pub use value_core::OpFault;
 pub use words::{op_named, takes};

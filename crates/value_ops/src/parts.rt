@@ -1,4 +1,4 @@
-ghost use Rattle.std.specs.Prelude.{◌≡◌, ◌≢◌, ◌≤◌, ◌<◌, ◌+◌, ◌-◌, ◌++◌, ◌∷◌, [], ℕ, ℤ, pos, true, false, map, take, drop, length, IfOk, IfErr, Ok, Err, Some, None, is_some};
+ghost use Rattle.std.specs.Prelude.{◌≡◌, ◌≢◌, ◌≤◌, ◌<◌, ◌+◌, ◌-◌, ◌++◌, ◌∷◌, [], ℕ, ℤ, pos, true, false, map, take, drop, length, IfOk, IfErr, MatchOption, Ok, Err, Some, None, is_some};
 ghost use Rattle.std.specs.Option.{option_copied};
 ghost use Rattle.value_core.specs.declared.value.Value.TheVariants.{Nil, Int, Vector};
 ghost use Rattle.value_core.specs.declared.value.Value.TheOpen as one;
@@ -107,26 +107,53 @@ pub(crate) fn nth(alloc: Global, args: &[Value]) -> Result<Value, OpFault>
 }
 
 /// `conj`
-pub(crate) fn conj(alloc: Global, args: &[Value]) -> Result<Value, OpFault>
-    ensures { Gives result (of_first (λ c more. conj_step (out-Value c) more) args.now) }
+pub(crate) fn conj(alloc: Global, args: Vec<Value>) -> Result<Value, OpFault>
+    ensures { Gives result (of_first (λ c more. conj_step (out-Value c) more) args.items) }
 {
-    let Some((first, more)) = args.split_first() else {
+    let Some(parts) = first_of(args) else {
         return Err(OpFault::WrongType);
     };
+    let (first, more) = parts;
     match first {
-        Value::Vector(items) => joined(alloc, items.copy()?, more),
+        Value::Vector(items) => joined(alloc, items, &more),
         _ => Err(OpFault::WrongType),
     }
 }
 
 /// `into`
-pub(crate) fn into(alloc: Global, args: &[Value]) -> Result<Value, OpFault>
-    ensures { Gives result (of_two (λ a b. into_step (out-Value a) (out-Value b)) args.now) }
+pub(crate) fn into(alloc: Global, args: Vec<Value>) -> Result<Value, OpFault>
+    ensures { Gives result (of_two (λ a b. into_step (out-Value a) (out-Value b)) args.items) }
 {
-    match args {
-        [Value::Vector(items), Value::Vector(more)] => joined(alloc, items.copy()?, more.items()),
+    let Some(parts) = first_of(args) else {
+        return Err(OpFault::WrongType);
+    };
+    let (first, more) = parts;
+    match first {
+        Value::Vector(items) => appended(alloc, items, &more),
         _ => Err(OpFault::WrongType),
     }
+}
+
+// The vector of the items and then those of the one vector behind it.
+fn appended(alloc: Global, items: Values, more: &[Value]) -> Result<Value, OpFault>
+    ensures { Gives result (of_two (λ a b. into_step (out-Value a) (out-Value b)) (Vector items ∷ more.now)) }
+{
+    match more {
+        [Value::Vector(more)] => joined(alloc, items, more.items()),
+        _ => Err(OpFault::WrongType),
+    }
+}
+
+/// The first argument, and those behind it.
+pub(crate) fn first_of(args: Vec<Value>) -> Option<(Value, Vec<Value>)>
+    ensures { MatchOption result (args.items ≡ []) (λ parts. args.items ≡ parts.0 ∷ parts.1.items) }
+{
+    let mut args = args;
+    if args.is_empty() {
+        return None;
+    }
+    let first = args.remove(0);
+    Some((first, args))
 }
 
 /// `vector`
@@ -324,6 +351,20 @@ pub(crate) fn push(items: &mut Values, value: Value) -> Result<(), OpFault>
     ensures err { IfErr result (λ fault. fault ≡ OpFault.Memory) }
 {
     items.push(value).map_err(|_| OpFault::Memory)
+}
+
+/// Equal values.
+pub(crate) fn copies(alloc: Global, values: &[Value]) -> Result<Vec<Value>, OpFault>
+    ensures ok { IfOk result (λ copies. copies.items ≡ values.now) }
+    ensures err { IfErr result (λ fault. fault ≡ OpFault.Memory) }
+{
+    let mut copies = Vec::with_capacity(alloc, values.len())?;
+    for value in values {
+        copies
+            .push(value.copy(alloc)?)
+            .map_err(|_| OpFault::Memory)?;
+    }
+    Ok(copies)
 }
 
 /// Appends copies of the values.

@@ -1,9 +1,10 @@
-ghost use Rattle.std.specs.Prelude.{◌≡◌, length, IsTrue, Ok};
+ghost use Rattle.std.specs.Prelude.{◌≡◌, length, All, IsTrue, Ok};
 ghost use Rattle.value_core.specs.declared.value.Value.TheVariants.{Str};
 ghost use Rattle.value_core.specs.Texts.{str_text};
 ghost use Rattle.value_core.specs.primitives.Apply.{Gives, apply_of, rule_of, limited};
 ghost use Rattle.value_core.specs.primitives.Equality.{all_same, same_value};
 ghost use Rattle.value_core.specs.primitives.Words.{takes_of};
+ghost use Rattle.value_ops.specs.Depths.{FirstIsShallow, IsPart, KeepsShallow};
 
 use crate::ints::{Arithmetic, Division, Extreme, Order, Sign};
 use crate::kinds::Kind;
@@ -24,6 +25,58 @@ pub fn apply(alloc: Global, op: Op, args: &[Value]) -> Result<Value, OpFault>
     }
 }
 
+/// The same for arguments that are given away: `conj`, `into`, `assoc` and `dissoc` change a collection where it lies, if
+/// nothing else holds it. Of a first argument that is known to be at most 200 deep they look at no part.
+pub fn apply_to_own(
+    alloc: Global,
+    op: Op,
+    args: Vec<Value>,
+    first_is_shallow: bool,
+) -> Result<Value, OpFault>
+    requires takes { IsTrue (takes_of op (length args.items)) }
+    requires first { IsTrue first_is_shallow → FirstIsShallow args.items }
+    ensures { Gives result (apply_of op args.items) }
+{
+    let stays_shallow = first_is_shallow && keeps_shallow(op, &args);
+    match own_rule(alloc, op, args) {
+        Ok(value) => {
+            if stays_shallow {
+                return Ok(value);
+            }
+            limited(value)
+        }
+        Err(fault) => Err(fault),
+    }
+}
+
+// Whether it is found that what the primitive gives is at most 200 deep, if its first argument is.
+fn keeps_shallow(op: Op, args: &[Value]) -> bool
+    ensures { IsTrue result → KeepsShallow op args.now }
+{
+    let Some((_, more)) = args.split_first() else {
+        return false;
+    };
+    match op {
+        Op::Conj => are_parts(more),
+        Op::Into => are_parts(more),
+        Op::Assoc => are_parts(more),
+        Op::Dissoc => true,
+        _ => false,
+    }
+}
+
+// Whether each value is less than 200 deep.
+fn are_parts(values: &[Value]) -> bool
+    ensures { IsTrue result → All IsPart values.now }
+{
+    for value in values {
+        if value.depth() >= 200 {
+            return false;
+        }
+    }
+    true
+}
+
 fn limited(value: Value) -> Result<Value, OpFault>
     ensures { Gives result (limited (Ok value)) }
 {
@@ -31,6 +84,19 @@ fn limited(value: Value) -> Result<Value, OpFault>
         Ok(value)
     } else {
         Err(OpFault::TooDeep)
+    }
+}
+
+// What the primitive gives for arguments that are given away, with no bound on depth.
+fn own_rule(alloc: Global, op: Op, args: Vec<Value>) -> Result<Value, OpFault>
+    ensures { Gives result (rule_of op args.items) }
+{
+    match op {
+        Op::Conj => parts::conj(alloc, args),
+        Op::Into => parts::into(alloc, args),
+        Op::Assoc => entries::assoc(alloc, args),
+        Op::Dissoc => entries::dissoc(alloc, args),
+        _ => rule(alloc, op, &args),
     }
 }
 
@@ -71,9 +137,9 @@ fn rule(alloc: Global, op: Op, args: &[Value]) -> Result<Value, OpFault>
         Op::Count => parts::count(args),
         Op::Get => parts::get(alloc, args),
         Op::Nth => parts::nth(alloc, args),
-        Op::Conj => parts::conj(alloc, args),
-        Op::Assoc => entries::assoc(alloc, args),
-        Op::Dissoc => entries::dissoc(alloc, args),
+        Op::Conj => parts::conj(alloc, parts::copies(alloc, args)?),
+        Op::Assoc => entries::assoc(alloc, parts::copies(alloc, args)?),
+        Op::Dissoc => entries::dissoc(alloc, parts::copies(alloc, args)?),
         Op::Contains => parts::contains(alloc, args),
         Op::Keys => parts::keys(alloc, args),
         Op::Vals => parts::vals(alloc, args),
@@ -82,7 +148,7 @@ fn rule(alloc: Global, op: Op, args: &[Value]) -> Result<Value, OpFault>
         Op::Rest => parts::rest(alloc, args),
         Op::IsEmpty => parts::empty(args),
         Op::Subvec => parts::subvec(alloc, args),
-        Op::Into => parts::into(alloc, args),
+        Op::Into => parts::into(alloc, parts::copies(alloc, args)?),
         Op::Str => string(alloc, args),
     }
 }

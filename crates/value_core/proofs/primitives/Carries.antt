@@ -1,13 +1,10 @@
 -- What a structural predicate says of the arguments of a primitive it says of the value that the primitive gives.
 use Rattle.std.proofs.Common.{◌≡◌, ℕ, ℤ, pos, negsuc, zero, suc, Bool, true, false, List, [], ◌∷◌, ◌++◌, length, map, subst, cond}
-use Rattle.std.specs.Prelude.{◌-◌, ◌+ℤ◌, ◌-ℤ◌, ◌*ℤ◌, ◌==◌, ◌&&◌, nat_le, nat_lt, Option, None, Some, Result, Ok, Err, All, fold, slice_set, unwrap_or, not, int_div, int_rem, int_lt, int_le, take, drop, is_some, option_and_then}
-use Rattle.std.specs.declared.cmp.Ordering.{Ordering}
-use Rattle.std.specs.declared.cmp.Ordering.TheVariants.{Less, Equal, Greater}
-use Rattle.std.specs.Ordering.{int_eq, is_eq, is_ne}
+use Rattle.std.specs.Prelude.{◌-◌, ◌+ℤ◌, ◌-ℤ◌, ◌*ℤ◌, ◌==◌, ◌&&◌, nat_le, Option, None, Some, Result, Ok, Err, All, fold, unwrap_or, not, int_div, int_rem, int_lt, int_le, take, drop, is_some, option_and_then}
+use Rattle.std.specs.Ordering.{int_eq, is_eq}
 use Rattle.std.specs.Int.{int_max, int_min}
 use Rattle.std.specs.List.{slice_get, list_all}
-use Rattle.std.specs.Option.{option_map_or}
-use Rattle.std.proofs.lemmas.List.Elements.{All-nil, All-cons, All-head, All-tail, All-append, All-push, All-set, All-take, All-drop, All-map, All-filter}
+use Rattle.std.proofs.lemmas.List.Elements.{All-nil, All-head, All-tail, All-append, All-take, All-drop, All-map}
 use Rattle.value_core.specs.declared.key.Key.{Key}
 use Rattle.value_core.specs.declared.key.Key.TheVariants as key
 use Rattle.value_core.specs.declared.op.Op.{Op}
@@ -19,7 +16,7 @@ use Rattle.value_core.specs.declared.value.Value.TheOpen as one
 use Rattle.value_core.specs.declared.value.Value.TheViews.{out-Value}
 use Rattle.value_core.specs.Depth.{depth_of}
 use Rattle.value_core.specs.Key.{key_cmp}
-use Rattle.value_core.specs.Pairs.{find_key, put_key, without_key, by_order, pair_of}
+use Rattle.value_core.specs.Pairs.{find_key}
 use Rattle.value_core.specs.Structural.{IsStructural}
 use Rattle.value_core.specs.ToKey.{key_of}
 use Rattle.value_core.proofs.Structural.{OfLevel, of_level}
@@ -30,26 +27,18 @@ use Rattle.value_core.specs.primitives.Apply.{of_one, of_two, of_two_or_three, o
 use Rattle.value_core.specs.primitives.Equality.{all_same}
 use Rattle.value_core.specs.primitives.Ints.{in_range, checked, folded, on_ints, sum_rule, product_rule, difference_rule, increase_rule, extreme_rule, division_rule, int_mod, in_order, order_rule, test_rule}
 use Rattle.value_core.specs.primitives.Kinds.{is_nil, is_bool, is_int, is_string, is_keyword, is_vector, is_map, is_false, int_of}
-use Rattle.value_core.specs.primitives.Parts.{item_at, item_of, value_at, count_step, empty_step, get_step, contains_step, item_or, nth_step, conj_step, paired, is_key, put_entry, put_rule, placed, place_entry, vector_or_index, place_rule, assoc_step, drop_key, dissoc_step, key_value, keys_step, vals_step, first_step, last_step, rest_step, between, subvec_step, subvec_to_step, append_step, into_step}
+use Rattle.value_core.specs.primitives.Parts.{item_at, item_of, value_at, count_step, empty_step, get_step, contains_step, item_or, nth_step, conj_step, paired, is_key, put_entry, put_rule, place_entry, vector_or_index, place_rule, assoc_step, drop_key, dissoc_step, key_value, keys_step, vals_step, first_step, last_step, rest_step, between, subvec_step, subvec_to_step, append_step, into_step}
+use Rattle.value_core.proofs.primitives.Making.{OfOption, option_by_test, OfPairs, OfEntries, paired-carries, put_entries-carries, place_entries-carries, drop_keys-carries}
 
 -- it holds of the value, where there is one
 abbrev pub OfResult : (Value → Type 0) → Result Value OpFault → Type 0
 OfResult P (Ok v) = P v
 OfResult P (Err fault) = Unit {0}
 
--- it holds of what is there
-abbrev OfOption : {X : Type 0} → (X → Type 0) → Option X → Type 0
-OfOption P None = Unit {0}
-OfOption P (Some x) = P x
-
 -- either branch
-by_test : (P : Value → Type 0) (b : Bool) (r s : Result Value OpFault) → OfResult P r → OfResult P s → OfResult P (cond b r s)
+pub by_test : (P : Value → Type 0) (b : Bool) (r s : Result Value OpFault) → OfResult P r → OfResult P s → OfResult P (cond b r s)
 by_test P true r s first second = first
 by_test P false r s first second = second
-
-option_by_test : {X : Type 0} (P : X → Type 0) (b : Bool) (r s : Option X) → OfOption P r → OfOption P s → OfOption P (cond b r s)
-option_by_test P true r s first second = first
-option_by_test P false r s first second = second
 
 got_at : {X : Type 0} (P : X → Type 0) (xs : List X) (i : ℕ) → All P xs → OfOption P (slice_get xs i)
 got_at P [] i all = tt
@@ -61,13 +50,6 @@ or_default P None default found holds = holds
 or_default P (Some x) default found holds = found
 
 module _ (P : Value → Type 0) (structural : IsStructural P) where
-  abbrev OfPairs : List (Pair Value) → Type 0
-  OfPairs ps = All (λ (p : Pair Value). P p.value) ps
-
-  -- what stands behind the keys
-  abbrev OfEntries : List (Value × Value) → Type 0
-  OfEntries entries = All (λ (e : Value × Value). P e.1) entries
-
   -- ---- numbers of arguments
   of_one-carries : (rule : Value → Result Value OpFault) → ((v : Value) → P v → OfResult P (rule v)) → (args : List Value) → All P args → OfResult P (of_one rule args)
   of_one-carries rule carries [] all = tt
@@ -144,13 +126,13 @@ module _ (P : Value → Type 0) (structural : IsStructural P) where
   item_of-carries : (items : List Value) (index : Value) → All P items → OfOption P (item_of items index)
   item_of-carries items index all = option_by_test P (is_int index) (item_at items (int_of index)) None (item_at-carries items (int_of index) all) tt
 
-  find_key-carries : (k : Key) (ps : List (Pair Value)) → OfPairs ps → OfOption P (find_key k ps)
+  find_key-carries : (k : Key) (ps : List (Pair Value)) → OfPairs P ps → OfOption P (find_key k ps)
   find_key-carries k [] all = tt
   find_key-carries k (p ∷ ps) all =
       option_by_test P (is_eq (key_cmp p.key k)) (Some p.value) (find_key k ps) (All-head (λ (p : Pair Value). P p.value) p ps all)
       (find_key-carries k ps (All-tail (λ (p : Pair Value). P p.value) p ps all))
 
-  value_at-carries : (ps : List (Pair Value)) (key : Value) → OfPairs ps → OfOption P (value_at ps key)
+  value_at-carries : (ps : List (Pair Value)) (key : Value) → OfPairs P ps → OfOption P (value_at ps key)
   value_at-carries ps key all = on (key_of key)
     where
       on : (found : Option Key) → OfOption P (option_and_then (λ k. find_key k ps) found)
@@ -252,91 +234,29 @@ module _ (P : Value → Type 0) (structural : IsStructural P) where
   into-carries (one.Vector items) more all added = append-carries items more all added
   into-carries _ more all added = tt
 
-  paired-carries : (args : List Value) → All P args → OfEntries (paired args)
-  paired-carries [] all = All-nil (λ (e : Value × Value). P e.1)
-  paired-carries (key ∷ []) all = All-nil (λ (e : Value × Value). P e.1)
-  paired-carries (key ∷ v ∷ rest) all =
-      let tail = All-tail P key (v ∷ rest) all in
-      All-cons (λ (e : Value × Value). P e.1) (key, v) (paired rest) (All-head P v rest tail) (paired-carries rest (All-tail P v rest tail))
-
-  put_key-carries : (k : Key) (v : Value) (ps : List (Pair Value)) → P v → OfPairs ps → OfPairs (put_key k v ps)
-  put_key-carries k v [] holds all = All-cons (λ (p : Pair Value). P p.value) (pair_of k v) [] holds all
-  put_key-carries k v (p ∷ ps) holds all = on (key_cmp p.key k) (put_key-carries k v ps holds (All-tail (λ (p : Pair Value). P p.value) p ps all))
-    where
-      here : P p.value
-      here = All-head (λ (p : Pair Value). P p.value) p ps all
-
-      behind : OfPairs ps
-      behind = All-tail (λ (p : Pair Value). P p.value) p ps all
-
-      on : (order : Ordering) → OfPairs (put_key k v ps) → OfPairs (by_order order (p ∷ put_key k v ps) (pair_of k v ∷ ps) (pair_of k v ∷ p ∷ ps))
-      on Less put = All-cons (λ (p : Pair Value). P p.value) p (put_key k v ps) here put
-      on Equal put = All-cons (λ (p : Pair Value). P p.value) (pair_of k v) ps holds behind
-      on Greater put = All-cons (λ (p : Pair Value). P p.value) (pair_of k v) (p ∷ ps) holds all
-
-  put_entry-carries : (ps : List (Pair Value)) (e : Value × Value) → OfPairs ps → P e.1 → OfPairs (put_entry ps e)
-  put_entry-carries ps e all holds = on (key_of e.0)
-    where
-      on : (found : Option Key) → OfPairs (option_map_or (λ k. put_key k e.1 ps) found ps)
-      on None = all
-      on (Some k) = put_key-carries k e.1 ps holds all
-
-  put_entries-carries : (ps : List (Pair Value)) (entries : List (Value × Value)) → OfPairs ps → OfEntries entries → OfPairs (fold put_entry ps entries)
-  put_entries-carries ps [] all holds = all
-  put_entries-carries ps (e ∷ entries) all holds =
-      put_entries-carries (put_entry ps e) entries (put_entry-carries ps e all (All-head (λ (e : Value × Value). P e.1) e entries holds))
-      (All-tail (λ (e : Value × Value). P e.1) e entries holds)
-
-  put_rule-carries : (ps : List (Pair Value)) (entries : List (Value × Value)) → OfPairs ps → OfEntries entries → OfResult P (put_rule ps entries)
+  put_rule-carries : (ps : List (Pair Value)) (entries : List (Value × Value)) → OfPairs P ps → OfEntries P entries → OfResult P (put_rule ps entries)
   put_rule-carries ps entries all holds =
       by_test P (list_all (λ (e : Value × Value). is_key e.0) entries) (Ok (value.Map (fold put_entry ps entries))) (Err fault.WrongType)
-      (structural.map (fold put_entry ps entries) (put_entries-carries ps entries all holds)) tt
-
-  placed-carries : (items : List Value) (n : ℤ) (v : Value) → All P items → P v → OfOption (All P) (placed items n v)
-  placed-carries items (pos i) v all holds =
-      option_by_test (All P) (nat_lt i (length items)) (Some (slice_set items i v)) (cond (i == length items) (Some (items ++ v ∷ [])) None) (All-set P items i v holds all)
-      (option_by_test (All P) (i == length items) (Some (items ++ v ∷ [])) None (All-push P items v all holds) tt)
-  placed-carries items (negsuc i) v all holds = tt
-
-  place_entry-carries : (so_far : Option (List Value)) (e : Value × Value) → OfOption (All P) so_far → P e.1 → OfOption (All P) (place_entry so_far e)
-  place_entry-carries None e all holds = tt
-  place_entry-carries (Some items) e all holds = placed-carries items (int_of e.0) e.1 all holds
-
-  place_entries-carries : (so_far : Option (List Value)) (entries : List (Value × Value)) → OfOption (All P) so_far → OfEntries entries → OfOption (All P) (fold place_entry so_far entries)
-  place_entries-carries so_far [] all holds = all
-  place_entries-carries so_far (e ∷ entries) all holds =
-      place_entries-carries (place_entry so_far e) entries (place_entry-carries so_far e all (All-head (λ (e : Value × Value). P e.1) e entries holds))
-      (All-tail (λ (e : Value × Value). P e.1) e entries holds)
+      (structural.map (fold put_entry ps entries) (put_entries-carries P ps entries all holds)) tt
 
   vector_or_index-carries : (made : Option (List Value)) → OfOption (All P) made → OfResult P (vector_or_index made)
   vector_or_index-carries None all = tt
   vector_or_index-carries (Some items) all = structural.vector items all
 
-  place_rule-carries : (items : List Value) (entries : List (Value × Value)) → All P items → OfEntries entries → OfResult P (place_rule items entries)
+  place_rule-carries : (items : List Value) (entries : List (Value × Value)) → All P items → OfEntries P entries → OfResult P (place_rule items entries)
   place_rule-carries items entries all holds =
       by_test P (list_all (λ (e : Value × Value). is_int e.0) entries) (vector_or_index (fold place_entry (Some items) entries)) (Err fault.WrongType)
-      (vector_or_index-carries (fold place_entry (Some items) entries) (place_entries-carries (Some items) entries all holds)) tt
+      (vector_or_index-carries (fold place_entry (Some items) entries) (place_entries-carries P (Some items) entries all holds)) tt
 
-  assoc-carries : (level : one.Value-F Value) (entries : List (Value × Value)) → OfLevel P level → OfEntries entries → OfResult P (assoc_step level entries)
+  assoc-carries : (level : one.Value-F Value) (entries : List (Value × Value)) → OfLevel P level → OfEntries P entries → OfResult P (assoc_step level entries)
   assoc-carries one.Nil entries all holds = put_rule-carries [] entries (All-nil (λ (p : Pair Value). P p.value)) holds
   assoc-carries (one.Map pairs) entries all holds = put_rule-carries pairs entries all holds
   assoc-carries (one.Vector items) entries all holds = place_rule-carries items entries all holds
   assoc-carries _ entries all holds = tt
 
-  drop_key-carries : (ps : List (Pair Value)) (v : Value) → OfPairs ps → OfPairs (drop_key ps v)
-  drop_key-carries ps v all = on (key_of v)
-    where
-      on : (found : Option Key) → OfPairs (option_map_or (λ k. without_key k ps) found ps)
-      on None = all
-      on (Some k) = All-filter (λ (p : Pair Value). is_ne (key_cmp p.key k)) (λ (p : Pair Value). P p.value) ps all
-
-  drop_keys-carries : (ps : List (Pair Value)) (keys : List Value) → OfPairs ps → OfPairs (fold drop_key ps keys)
-  drop_keys-carries ps [] all = all
-  drop_keys-carries ps (key ∷ keys) all = drop_keys-carries (drop_key ps key) keys (drop_key-carries ps key all)
-
   dissoc-carries : (level : one.Value-F Value) (keys : List Value) → OfLevel P level → OfResult P (dissoc_step level keys)
   dissoc-carries one.Nil keys all = structural.nil
-  dissoc-carries (one.Map pairs) keys all = structural.map (fold drop_key pairs keys) (drop_keys-carries pairs keys all)
+  dissoc-carries (one.Map pairs) keys all = structural.map (fold drop_key pairs keys) (drop_keys-carries P pairs keys all)
   dissoc-carries _ keys all = tt
 
   -- ---- all primitives
@@ -388,7 +308,7 @@ module _ (P : Value → Type 0) (structural : IsStructural P) where
       (λ c index default good holds other. nth-carries (out-Value c) index (Ok default) (opened c good) other) args all
   rule-carries op.Conj args all = of_first-carries (λ c more. conj_step (out-Value c) more) (λ c more good rest. conj-carries (out-Value c) more (opened c good) rest) args all
   rule-carries op.Assoc args all =
-      of_first-carries (λ c more. assoc_step (out-Value c) (paired more)) (λ c more good rest. assoc-carries (out-Value c) (paired more) (opened c good) (paired-carries more rest)) args all
+      of_first-carries (λ c more. assoc_step (out-Value c) (paired more)) (λ c more good rest. assoc-carries (out-Value c) (paired more) (opened c good) (paired-carries P more rest)) args all
   rule-carries op.Dissoc args all = of_first-carries (λ c keys. dissoc_step (out-Value c) keys) (λ c keys good rest. dissoc-carries (out-Value c) keys (opened c good)) args all
   rule-carries op.Contains args all = of_two-carries (λ c key. contains_step (out-Value c) key) (λ c key good holds. contains-carries (out-Value c) key) args all
   rule-carries op.Keys args all = of_one-carries (λ c. keys_step (out-Value c)) (λ c good. keys-carries (out-Value c)) args all
@@ -414,7 +334,7 @@ module _ (P : Value → Type 0) (structural : IsStructural P) where
   -- the value of a map that is written out
   pub mapped-carries : (values : List Value) → All P values → OfResult P (limited (put_rule [] (paired values)))
   mapped-carries values all =
-      limited-carries (put_rule [] (paired values)) (put_rule-carries [] (paired values) (All-nil (λ (p : Pair Value). P p.value)) (paired-carries values all))
+      limited-carries (put_rule [] (paired values)) (put_rule-carries [] (paired values) (All-nil (λ (p : Pair Value). P p.value)) (paired-carries P values all))
 
 -- what a primitive gives is as its arguments are
 pub apply-carries : (P : Value → Type 0) → IsStructural P → (op : Op) (args : List Value) (v : Value) → All P args → apply_of op args ≡ Ok v → P v

@@ -1,7 +1,11 @@
-use Rattle.std.proofs.Common.{length, subst}
+use Rattle.std.proofs.Common.{length, sym, subst}
 use Rattle.std.specs.Prelude.{All}
 use Rattle.std.proofs.lemmas.List.Elements.{All-tail}
 use Rattle.std.proofs.lemmas.Result.{IfOk-weaker}
+use Rattle.value_core.specs.declared.value.Value.{Value}
+use Rattle.serial_model.specs.declared.halt.Halt.TheVariants as halt
+use Rattle.eval_step.specs.declared.control.Control.TheVariants.{Halted}
+use Rattle.eval_step.specs.Steps.{Delivers}
 use Rattle.eval_step.specs.Walk.{ItemIn}
 use Rattle.eval_step.proofs.Returns.{delivers_item, delivers_last}
 use Rattle.eval_step.proofs.context.Context.deliver.Goals as goal
@@ -21,4 +25,6 @@ returns-in-Some c =
 pub returns-in-None : goal.returns-in-None
 returns-in-None c =
     let old = c.args.self.now in
-    delivers_last c.args.program.now old.frame old.stack c.args.value c.pop.new.self c.in-None.ensures.0 c.in-None.ensures.1
+    let P : Value → Type 0 = λ v. Delivers c.args.program.now c.args.value old (record { frame = old.frame; stack = c.pop.new.self }) (Halted (halt.Value v)) in
+    subst P (sym c.into_value.ensures)
+    (delivers_last c.args.program.now old.frame old.stack c.args.value c.pop.new.self c.in-None.ensures.0 c.in-None.ensures.1)

@@ -1,6 +1,6 @@
 use Rattle.std.proofs.lemmas.Result.{IfOk-weaker}
 use Rattle.eval_step.specs.Resume.{run}
-use Rattle.eval_step.proofs.Nodes.{enters_do, enters_if, enters_let, enters_others, level-plain}
+use Rattle.eval_step.proofs.Nodes.{enters_do, enters_if, enters_let, enters_others, enters_local, level-plain}
 use Rattle.eval_step.proofs.context.Context.enter.Goals as goal
 
 pub returns-in-Do : goal.returns-in-Do
@@ -32,3 +32,9 @@ returns-in_default c =
     (λ stands. enters_others table inside old.frame old.stack c.requires.items c.args.id c.node.result.now c.node.ensures.value c.enter_arguments.new.self stands
     (λ at fuel answers. level-plain table inside (run table inside) old.frame c.node.result.now at fuel answers c.in_default.not-Do c.in_default.not-If c.in_default.not-Let c.in_default.not-Dosync))
     c.enter_arguments.ensures
+
+pub returns-in_ok-local-in-Local : goal.returns-in_ok-local-in-Local
+returns-in_ok-local-in-Local c =
+    let old = c.args.self.now in
+    enters_local c.args.program.now c.args.inside old.frame old.stack c.requires.items c.args.id c.node.result.now c.node.ensures.value c.in-Local.place c.in_ok-local-in-Local.field-0 c.local.new.self
+    c.in-Local.is c.in_ok-local-in-Local.ensures.value c.in_ok-local-in-Local.ensures.alike

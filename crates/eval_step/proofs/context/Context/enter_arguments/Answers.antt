@@ -1,6 +1,4 @@
-use Rattle.std.proofs.Common.{◌∙◌, ap}
 use Rattle.std.proofs.lemmas.Result.{IfOk-weaker}
-use Rattle.eval_step.specs.Finish.{hidden_of}
 use Rattle.eval_step.proofs.Goings.{enters_arguments}
 use Rattle.eval_step.proofs.context.Context.enter_arguments.Goals as goal
 
@@ -9,5 +7,5 @@ returns c =
     let old = c.args.self.now in
     IfOk-weaker c.take_argument.result _ _
     (λ stands. enters_arguments c.args.program.now old.frame old.stack c.requires.items c.args.id c.node.result.now c.in_ok-values.values c.take_argument.new.self stands
-    c.node.ensures.value (c.in_ok-values.ensures ∙ ap (λ f. hidden_of f c.node.result.now) c.values.ensures))
+    c.node.ensures.value c.in_ok-values.ensures)
     c.take_argument.ensures

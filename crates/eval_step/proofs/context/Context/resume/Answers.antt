@@ -1,5 +1,7 @@
-use Rattle.std.proofs.Common.{List, length, subst}
+use Rattle.std.proofs.Common.{◌∙◌, List, length, ap, subst}
+use Rattle.std.specs.Prelude.{if◌then◌else◌}
 use Rattle.std.proofs.lemmas.Result.{IfOk-weaker}
+use Rattle.value_core.specs.primitives.Kinds.{is_false}
 use Rattle.eval_step.specs.declared.item.Item.{Item}
 use Rattle.eval_step.specs.declared.item.Item.TheVariants.{Choose}
 use Rattle.eval_step.specs.Steps.{TakesStep}
@@ -31,7 +33,8 @@ returns-in-Choose c =
     let table = c.args.program.now in
     let there = subst (ItemIn (length table.nodes)) c.in-Choose.is c.requires.item in
     resumes-along table c.args.item (Choose c.in-Choose.taken c.in-Choose.other) c.args.value old _ _ c.in-Choose.is
-    (resumes_choose table old.frame old.stack c.requires.items c.args.value c.in-Choose.taken c.in-Choose.other c.branch-value.result c.branch-value.ensures there.0 there.1)
+    (resumes_choose table old.frame old.stack c.requires.items c.args.value c.in-Choose.taken c.in-Choose.other c.branch-value.result
+    (c.branch-value.ensures ∙ ap (λ v. if is_false v then c.in-Choose.other else c.in-Choose.taken) c.value.ensures) there.0 there.1)
 
 pub returns-in-Do : goal.returns-in-Do
 returns-in-Do c =
