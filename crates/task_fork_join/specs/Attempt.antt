@@ -1,7 +1,7 @@
 -- The tasks of an attempt, as they are kept.
 use Rattle.std.specs.Prelude.{◌≡◌, ◌-◌, ℕ, true, List, [], ◌∷◌, Option, None, Some, refl, if◌then◌else◌, IfSome}
 use Rattle.std.specs.Coded.{Coded, code_by, coded×, coded_list, coded_option, coded_ℕ}
-use Rattle.std.specs.Option.{option_and_then, IsSome}
+use Rattle.std.specs.Option.{option_and_then, option_map, IsSome}
 use Rattle.eval_step.specs.Evaluation.{Evaluation, IsSame}
 use Rattle.serial_model.specs.Standing.{Ended, Going, Stage, Tasks, TreeTask}
 use Rattle.serial_model.specs.Task.{Outcome, Value, Fault, Spent}
@@ -16,7 +16,7 @@ use Rattle.txn_snapshot.specs.Laws.{in_tree}
 use Rattle.txn_snapshot.specs.SnapshotTask.{SnapshotTask, new_task}
 use Rattle.value_core.specs.declared.code.Code.TheVariants as code
 use Rattle.value_core.specs.Futures.{holds_future}
-use Rattle.value_core.specs.Named.{Name, Named, each_as, named}
+use Rattle.value_core.specs.Named.{Name, Named, each_as, made_by, named}
 use Rattle.value_core.specs.Place.{Spot}
 
 -- The root's name; the tasks by name; the refs that they read from the store; the actor whose turn it is, where there is one;
@@ -134,3 +134,12 @@ pub record IsNew (root : Name) (machine : Evaluation) (actor : Option Name) (sna
   pub snapshot_is : tree.snapshot ≡ snapshot
   pub fuel_is : tree.fuel ≡ fuel
   pub escape_is : tree.escape ≡ end.Fault code.FutureEscapes at
+
+-- the names of the tasks
+abbrev pub names_in : Named Task → List Name
+names_in [] = []
+names_in (e ∷ es) = e.0 ∷ names_in es
+
+-- the name of the next thing that a task makes
+abbrev pub next_made_at : Attempt → Name → Option Name
+next_made_at tree task = option_map (λ (t : Task). made_by t.log.log.name t.log.log.made) (named task tree.tasks)

@@ -2,7 +2,7 @@ ghost use Rattle.std.specs.Prelude.{◌≡◌, ◌∷◌, [], true, IfOk, OnErr,
 ghost use Rattle.std.specs.Option.{option_copied};
 ghost use Rattle.eval_step.specs.Evaluation.{IsAsking};
 ghost use Rattle.serial_model.specs.Carried.{IsInner};
-ghost use Rattle.task_fork_join.specs.Attempt.{end_at, machine_of, unless_escaping, IsKept, IsNew, IsRootAlone, IsRootLog};
+ghost use Rattle.task_fork_join.specs.Attempt.{end_at, names_in, next_made_at, machine_of, unless_escaping, IsKept, IsNew, IsRootAlone, IsRootLog};
 ghost use Rattle.task_fork_join.specs.Closing.{IsClose};
 ghost use Rattle.task_fork_join.specs.Forking.{CameFork};
 ghost use Rattle.task_fork_join.specs.Joining.{IsEnded, IsJoin};
@@ -16,6 +16,7 @@ use crate::closing::close;
 use crate::forking::{begins, fork, new_log};
 use crate::joining::join;
 use crate::task::{Parts, Stage, Task};
+use crate::task_names::TaskNames;
 use crate::tasks::{end, task_of};
 use crate::{Stepped, TaskEnd};
 use core_syntax::NodeId;
@@ -289,6 +290,31 @@ impl Tree {
             TaskEnd::Fault(_, _) => ended,
             TaskEnd::Spent => ended,
         }
+    }
+
+    /// The number of entries at the snapshot. It takes no memory.
+    pub fn snapshot(&self) -> u64
+        ensures { result ≡ self.now.snapshot }
+    {
+        self.snapshot
+    }
+
+    /// The name of the next thing that the task makes. None exactly where the tree has no task of that name.
+    pub fn next_made(&self, alloc: Global, task: &Name) -> Result<Option<Name>, AllocError>
+        ensures { IfOk result (λ name. name ≡ next_made_at self.now task.now) }
+    {
+        match find(&self.tasks, task) {
+            Some(task) => Ok(Some(task.log.made_at(alloc, task.log.made())?)),
+            None => Ok(None),
+        }
+    }
+
+    /// Gives up the attempt for the names of its tasks. It takes no memory.
+    pub fn into_names(self) -> TaskNames
+        ensures { result ≡ names_in self.tasks }
+    {
+        let Tree { tasks, .. } = self;
+        TaskNames { tasks }
     }
 
     /// The root's task.
