@@ -9,7 +9,7 @@ use Rattle.shared_world.specs.rows.Tasks.{TaskGives}
 use Rattle.shared_world.specs.rows.Units.{UnitGives}
 use Rattle.shared_world.specs.Shared.{claimed, Shared, unit_state}
 use Rattle.task_fork_join.specs.Attempt.{Attempt, machine_of}
-use Rattle.unit_table.specs.Board.{SamePieces, piece_at, unit_at}
+use Rattle.unit_table.specs.Board.{Board, SamePieces, piece_at, unit_at}
 use Rattle.unit_table.specs.declared.mark.Mark.{Mark}
 use Rattle.unit_table.specs.declared.piece.Piece.TheVariants as piece
 use Rattle.unit_table.specs.declared.unit.Unit.{Unit}
@@ -31,10 +31,10 @@ pub record GaveUnit (old : Shared) (name : Name) (found : Given) (new : Shared) 
   pub claims : ClaimsEnd (λ q. same_name q name) old new
 
 -- whose claims end: the task's, and where the attempt goes those of all its tasks
-abbrev pub gone_with : Given → Name → Attempt → Name → Bool
-gone_with (given.Settled entry) task tree = piece_or_task task tree
-gone_with (given.Aborted unit name version) task tree = piece_or_task task tree
-gone_with found task tree = λ q. same_name q task
+abbrev pub gone_with : Board → Given → Name → Attempt → Name → Bool
+gone_with board (given.Settled entry) task tree = piece_or_task board task tree
+gone_with board (given.Aborted unit name version) task tree = piece_or_task board task tree
+gone_with board found task tree = λ q. same_name q task
 
 -- a task of the attempt of a unit
 pub record GaveTask (old : Shared) (name : Name) (found : Given) (new : Shared) : Type 0 where
@@ -47,7 +47,7 @@ pub record GaveTask (old : Shared) (name : Name) (found : Given) (new : Shared) 
   pub unit_there : unit_at old.board owner ≡ Some unit
   pub attempt : named owner old.attempts ≡ Some tree
   pub gives : TaskGives old owner unit name tree (machine_of tree name) found new
-  pub claims : ClaimsEnd (gone_with found name tree) old new
+  pub claims : ClaimsEnd (gone_with old.board found name tree) old new
 
 -- What the world answers and is afterwards, for a result.
 pub data Gave (old : Shared) (result : Returned) (found : Given) (new : Shared) : Type 0 where

@@ -1,5 +1,5 @@
 -- What becomes of pieces and claims.
-use Rattle.std.specs.Prelude.{◌≡◌, ◌||◌, ◌++◌, ◌∷◌, [], Bool, true, Option, None, Some, cond, is_some}
+use Rattle.std.specs.Prelude.{◌≡◌, ◌||◌, ◌&&◌, ◌++◌, ◌∷◌, [], Bool, true, false, Option, None, Some, cond, is_some}
 use Rattle.serial_model.specs.declared.end.End.{End}
 use Rattle.serial_model.specs.declared.entry.Entry.TheVariants.{Run}
 use Rattle.serial_model.specs.State.{Setup, UnitState}
@@ -73,6 +73,11 @@ task_gone found = found
 abbrev pub without_tasks : Attempt → (Name → Option Piece) → Name → Option Piece
 without_tasks tree pieces name = cond (is_some (named name tree.tasks)) (task_gone (pieces name)) (pieces name)
 
+-- a task
+abbrev pub is_task : Option Piece → Bool
+is_task (Some (piece.Task m)) = true
+is_task found = false
+
 -- the piece, and the tasks of the attempt
-abbrev pub piece_or_task : Name → Attempt → Name → Bool
-piece_or_task u tree name = same_name name u || is_some (named name tree.tasks)
+abbrev pub piece_or_task : Board → Name → Attempt → Name → Bool
+piece_or_task board u tree name = same_name name u || (is_some (named name tree.tasks) && is_task (piece_at board name))
