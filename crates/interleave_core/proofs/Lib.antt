@@ -1,0 +1,6 @@
+pub mod Aborting
+pub mod Forking
+pub mod Gone
+pub mod Live
+pub mod Settling
+pub mod Trying
