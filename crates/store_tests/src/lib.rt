@@ -2,6 +2,8 @@
 #![tactic(auto)]
 
 #[cfg(test)]
+mod forks;
+#[cfg(test)]
 mod snapshots;
 #[cfg(test)]
 mod validations;

@@ -1,5 +1,7 @@
-//! Tests of the tasks of an attempt.
+//! Tests of the tasks of an attempt, and of what a program uses.
 #![tactic(auto)]
 
+#[cfg(test)]
+mod samples;
 #[cfg(test)]
 mod trees;
