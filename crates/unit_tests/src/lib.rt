@@ -1,5 +1,7 @@
-//! Tests of the table of units, tasks and actors.
+//! Tests of the table of units, tasks and actors, and of claims.
 #![tactic(auto)]
 
+#[cfg(test)]
+mod claims;
 #[cfg(test)]
 mod units;

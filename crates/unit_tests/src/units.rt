@@ -6,7 +6,7 @@ use std::test::Fail;
 use unit_table::{Mark, UnitKind, Units, WaitOn, Work};
 use value_core::{Name, Value, Values};
 
-fn name(alloc: Global, text: &str) -> Result<Name, AllocError> {
+pub(crate) fn name(alloc: Global, text: &str) -> Result<Name, AllocError> {
     Name::read(alloc, text.as_bytes()).map_err(|_| AllocError)
 }
 
