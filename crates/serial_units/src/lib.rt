@@ -2,6 +2,7 @@
 #![tactic(auto)]
 
 mod around;
+mod own;
 mod task;
 mod tasks;
 mod transaction;

@@ -1,8 +1,8 @@
-ghost use Rattle.std.specs.Prelude.{◌≡◌, ◌||◌, suc, true, ◌<◌, [], List, IfOk, Some, None, length, unwrap_or};
+ghost use Rattle.std.specs.Prelude.{◌≡◌, ◌||◌, ℕ, suc, true, ◌<◌, [], List, IfOk, Some, None, length, unwrap_or};
 ghost use Rattle.std.specs.Option.{option_copied};
 ghost use Rattle.value_core.specs.Named.{Name as Naming, made_by, named, same_name, with_named};
 ghost use Rattle.serial_model.specs.declared.answer.Answer.{Answer as Answering};
-ghost use Rattle.serial_model.specs.Task.{Here, Known, asks, closes, forks, looks_up, joins_found, result_of, read_in, task, task_step, turns as turns_of};
+ghost use Rattle.serial_model.specs.Task.{Call, Here, Known, asks, closes, forks, looks_up, joins_found, result_of, read_in, task, task_step, turns as turns_of};
 ghost use Rattle.serial_model.specs.Log.{new_log, with_made};
 ghost use Rattle.serial_model.specs.declared.answer.Answer.TheVariants as answer_of;
 ghost use Rattle.value_core.specs.declared.value.Value.{Value as Datum};
@@ -16,8 +16,10 @@ ghost use Rattle.value_core.specs.NameSet.{has_name};
 ghost use Rattle.serial_units.specs.Tasks.{around_of, view_of, knows_below, end_met, with_top, IsAt, IsClosed, IsFinal, IsResult, IsJoined, IsMet, IsTakenIn, IsMoved, IsReply, Extends, IsMachine, Knows, AddsBelow, AddsMade, IsFree, IsUnmade, KeepsMade};
 ghost use Rattle.serial_model.specs.Standing.{call_below, here_of};
 ghost use Rattle.serial_units.specs.Asking.{IsThereAt};
+ghost use Rattle.serial_units.specs.Own.{IsOwn};
 
 use crate::around::Around;
+use crate::own::act;
 use crate::task::{Done, Task, TaskEnd};
 use core_syntax::NodeId;
 use eval_step::Machine;
@@ -25,7 +27,6 @@ use serial_model::{Answer, Halt, Request};
 use std::alloc::{AllocError, Global};
 use std::collections::BTreeMap;
 use std::mem;
-use task_log::acts::{new_ref, print, send, set_ref, spawn, turn_into};
 use value_core::name_map::{find, put};
 use value_core::name_set::{add, add_all};
 use value_core::{Code, Name, Value, Values};
@@ -100,50 +101,26 @@ impl Tasks {
             (asks (around_of around.now) levels (call_below (around_of around.now) levels) (view_of self.old.below.items) (here_of answers self.old.top.log known) request)) }
     {
         match request {
-            Request::Print(text) => Ok(Reply::Answer(print(alloc, &mut self.top.log, text)?)),
-            Request::NewRef(content) => Ok(Reply::Answer(new_ref(
-                alloc,
-                &mut self.top.log,
-                content,
-            )?)),
-            Request::RefSet(name, content) => Ok(Reply::Answer(set_ref(
-                alloc,
-                &mut self.top.log,
-                name,
-                content,
-            )?)),
-            Request::Spawn(behaviour, state) => Ok(Reply::Answer(spawn(
-                alloc,
-                &mut self.top.log,
-                behaviour,
-                state,
-            )?)),
-            Request::Send(actor, message) => Ok(Reply::Answer(send(
-                alloc,
-                &mut self.top.log,
-                actor,
-                message,
-            )?)),
-            Request::Become(behaviour, state) => match around.actor {
-                Some(_) => Ok(Reply::Answer(turn_into(
-                    alloc,
-                    &mut self.top.log,
-                    behaviour,
-                    state,
-                )?)),
-                None => Ok(Reply::Answer(Answer::Fault(Code::NoTurn))),
-            },
-            Request::SelfActor => match around.actor {
-                Some(actor) => Ok(Reply::Answer(Answer::Value(Value::Actor(actor.copy(alloc)?)))),
-                None => Ok(Reply::Answer(Answer::Fault(Code::NoTurn))),
-            },
             Request::Deref(name) => self.read(alloc, around, &name),
             Request::Join(future) => self.join(alloc, around, &future),
-            Request::Fork(body, values) => Ok(Reply::Answer(self.fork(
-                alloc, around, levels, body, values,
-            )?)),
+            Request::Fork(body, values) => self.fork(alloc, around, levels, body, values),
             Request::Dosync(_, _) => Ok(Reply::Ended(TaskEnd::Blocked)),
+            own => self.act(alloc, around, own),
         }
+    }
+
+    /// The reply to a request that rests on nothing but the task.
+    fn act(&mut self, alloc: Global, around: &Around, request: Request) -> Result<Reply, AllocError>
+        requires { IsOwn request }
+        ensures below { self.new.below.items ≡ self.old.below.items }
+        ensures results { self.new.results.entries ≡ self.old.results.entries }
+        ensures made { IfOk result (λ _. AddsMade self.old.results.entries self.old.top.log self.new.results.entries self.new.top.log) }
+        ensures reply { IfOk result (λ found. (levels : ℕ) (call : Call) (answers : List Answering) (known : Known) → Knows self.old.results.entries self.old.below.items self.old.top.known known
+            → IsReply self.new.results.entries self.new.below.items self.new.top answers found
+            (asks (around_of around.now) levels call (view_of self.old.below.items) (here_of answers self.old.top.log known) request)) }
+    {
+        let given = act(alloc, &mut self.top.log, around.actor, request)?;
+        Ok(Reply::Answer(given))
     }
 
     /// A ref is read in the own writes, then in the view, then in the store.
@@ -202,24 +179,23 @@ impl Tasks {
         levels: u32,
         body: NodeId,
         values: Values,
-    ) -> Result<Answer, AllocError>
+    ) -> Result<Reply, AllocError>
         requires body { body.index < length (around_of around.now).program.nodes }
         requires unmade { IsUnmade self.old.results.entries self.old.top.log }
         ensures below { IfOk result (λ _. self.new.below.items ≡ self.old.below.items) }
         ensures results { IfOk result (λ _. Extends self.old.results.entries self.new.results.entries) }
         ensures made { IfOk result (λ _. AddsMade self.old.results.entries self.old.top.log self.new.results.entries self.new.top.log) }
-        ensures reply { IfOk result (λ given. (answers : List Answering) (known : Known) → Knows self.old.results.entries self.old.below.items self.old.top.known known
-            → IsReply self.new.results.entries self.new.below.items self.new.top answers (reply.Answer given)
+        ensures reply { IfOk result (λ found. (answers : List Answering) (known : Known) → Knows self.old.results.entries self.old.below.items self.old.top.known known
+            → IsReply self.new.results.entries self.new.below.items self.new.top answers found
             (forks levels (call_below (around_of around.now) levels) (view_of self.old.below.items) (here_of answers self.old.top.log known) body values)) }
     {
         if levels == 0 {
-            return Ok(Answer::Fault(Code::ForkTooDeep));
+            return Ok(Reply::Answer(Answer::Fault(Code::ForkTooDeep)));
         }
         let future = self.top.log.next_made(alloc)?;
-        let name = future.copy(alloc)?;
-        let done = self.run(alloc, around, levels - 1, name, body, values)?;
+        let done = self.run(alloc, around, levels - 1, &future, body, values)?;
         let answer = self.keep(alloc, future, done)?;
-        Ok(answer)
+        Ok(Reply::Answer(answer))
     }
 
     /// Keeps the result of a child that the running task forked.
@@ -245,19 +221,19 @@ impl Tasks {
         alloc: Global,
         around: &Around,
         levels: u32,
-        name: Name,
+        name: &Name,
         body: NodeId,
         values: Values,
     ) -> Result<Done, AllocError>
         requires body { body.index < length (around_of around.now).program.nodes }
-        requires free { IsFree self.old.results.entries name }
+        requires free { IsFree self.old.results.entries name.now }
         ensures top { IfOk result (λ _. self.new.top ≡ self.old.top) }
         ensures below { IfOk result (λ _. self.new.below.items ≡ self.old.below.items) }
         ensures results { IfOk result (λ _. Extends self.old.results.entries self.new.results.entries) }
-        ensures below_name { IfOk result (λ _. AddsBelow name self.old.results.entries self.new.results.entries) }
+        ensures below_name { IfOk result (λ _. AddsBelow name.now self.old.results.entries self.new.results.entries) }
         ensures done { IfOk result (λ done. (known : Known) → Knows self.old.results.entries self.old.below.items self.old.top.known known
             → IsResult self.new.results.entries (with_top self.old.below.items self.old.top) done.task done.end
-            (task (around_of around.now) levels name body values (view_of (with_top self.old.below.items self.old.top)) known)) }
+            (task (around_of around.now) levels name.now body values (view_of (with_top self.old.below.items self.old.top)) known)) }
     {
         let mut machine = Machine::start(alloc, body, values, true, around.fuel)?;
         self.run_above(alloc, around, levels, name, &mut machine)
@@ -270,19 +246,19 @@ impl Tasks {
         alloc: Global,
         around: &Around,
         levels: u32,
-        name: Name,
+        name: &Name,
         machine: &mut Machine,
     ) -> Result<Done, AllocError>
         requires machine { IsMachine (around_of around.now) machine.old }
-        requires free { IsFree self.old.results.entries name }
+        requires free { IsFree self.old.results.entries name.now }
         ensures top { IfOk result (λ _. self.new.top ≡ self.old.top) }
         ensures below { IfOk result (λ _. self.new.below.items ≡ self.old.below.items) }
         ensures results { IfOk result (λ _. Extends self.old.results.entries self.new.results.entries) }
-        ensures below_name { IfOk result (λ _. AddsBelow name self.old.results.entries self.new.results.entries) }
+        ensures below_name { IfOk result (λ _. AddsBelow name.now self.old.results.entries self.new.results.entries) }
         ensures done { IfOk result (λ done. (known : Known) → Knows self.old.results.entries self.old.below.items self.old.top.known known
             → IsResult self.new.results.entries (with_top self.old.below.items self.old.top) done.task done.end
             (turns_of (around_of around.now) levels (call_below (around_of around.now) levels) machine.old.body machine.old.values (view_of (with_top self.old.below.items self.old.top))
-            (suc (around_of around.now).fuel) (here_of machine.old.answers (new_log name) known))) }
+            (suc (around_of around.now).fuel) (here_of machine.old.answers (new_log name.now) known))) }
     {
         self.begin(alloc, name)?;
         match self.turns(alloc, around, levels, machine) {
@@ -292,13 +268,14 @@ impl Tasks {
     }
 
     /// A child begins above the running task.
-    fn begin(&mut self, alloc: Global, name: Name) -> Result<(), AllocError>
+    fn begin(&mut self, alloc: Global, name: &Name) -> Result<(), AllocError>
         ensures results { self.new.results.entries ≡ self.old.results.entries }
         ensures below { IfOk result (λ _. self.new.below.items ≡ with_top self.old.below.items self.old.top) }
-        ensures log { IfOk result (λ _. self.new.top.log ≡ new_log name) }
+        ensures log { IfOk result (λ _. self.new.top.log ≡ new_log name.now) }
         ensures known { IfOk result (λ _. self.new.top.known.keys ≡ []) }
     {
-        let parent = mem::replace(&mut self.top, Task::new(alloc, name));
+        let child = Task::new(alloc, name.copy(alloc)?);
+        let parent = mem::replace(&mut self.top, child);
         match self.below.push(parent) {
             Ok(()) => Ok(()),
             Err(_) => Err(AllocError),

@@ -2,12 +2,12 @@ use Rattle.std.proofs.Common.{◌≡◌, ◌≢◌, ◌∙◌, ◌-◌, ◌+◌,
 use Rattle.std.specs.Prelude.{◌||◌}
 use Rattle.value_core.specs.Named.{Name, same_name}
 use Rattle.serial_model.specs.Log.{with_made, new_log}
-use Rattle.serial_model.specs.Task.{forks, task, turns as turns_of}
+use Rattle.serial_model.specs.Task.{forks, turns as turns_of}
 use Rattle.serial_units.specs.declared.task.Task.{Task}
 use Rattle.serial_units.specs.declared.tasks.Reply.TheVariants as reply
 use Rattle.serial_units.specs.declared.task.TaskEnd.TheVariants as end_of
 use Rattle.value_core.specs.NameSet.{has_name}
-use Rattle.serial_units.specs.Tasks.{around_of, view_of, with_top, AddsBelow, IsReply, IsResult}
+use Rattle.serial_units.specs.Tasks.{around_of, view_of, with_top, IsReply, IsResult}
 use Rattle.serial_model.specs.Standing.{call_below, here_of}
 use Rattle.std.proofs.lemmas.Result.{IfOk-weaker}
 use Rattle.serial_units.proofs.Forks.{forked, extends_both}
@@ -24,7 +24,7 @@ fork-keep-requires t c =
     let mid = c.run.new.self in
     still_free old.results.entries mid.results.entries c.in_ok-future.future
     (next_free old.results.entries old.top.log c.in_ok-future.future c.requires.unmade c.in_ok-future.ensures)
-    (subst (λ n. AddsBelow n old.results.entries mid.results.entries) c.in_ok-name.ensures c.in_ok-done.ensures.below_name)
+    c.in_ok-done.ensures.below_name
 
 pub fork-returns-clause-reply : goal.fork-returns-clause-reply
 fork-returns-clause-reply t c = λ answers known knows.
@@ -34,10 +34,8 @@ fork-returns-clause-reply t c = λ answers known knows.
     let new = c.keep.new.self in
     let kept = c.in_ok-answer.ensures in
     let ran = c.in_ok-done.ensures in
-    let name = c.in_ok-name.ensures in
     let done = c.in_ok-done.done in
-    let result = subst (λ n. IsResult mid.results.entries (with_top old.below.items old.top) done.task done.end
-    (task around (c.args.levels - 1) n c.args.body c.args.values (view_of (with_top old.below.items old.top)) known)) name (ran.done known knows) in
+    let result = ran.done known knows in
     let replied = forked around (c.args.levels - 1) old.results.entries mid.results.entries new.results.entries old.below.items old.top new.top c.in_ok-future.future done answers known
     c.args.body c.args.values c.in_ok-answer.answer knows ran.results kept.results kept.kept result
     (subst (λ (top : Task). (g : Name) → has_name new.top.known g ≡ (has_name top.known g || same_name g c.in_ok-future.future)) ran.top kept.known) (subst (λ (top : Task). new.top.log ≡ with_made top.log) ran.top kept.log) kept.answer c.in_ok-future.ensures in
@@ -52,14 +50,14 @@ fork-returns-clause-made t c =
     let mid = c.run.new.self in
     let new = c.keep.new.self in
     fork_adds old.results.entries mid.results.entries new.results.entries old.top.log new.top.log c.in_ok-future.future c.in_ok-done.done c.in_ok-future.ensures
-    (subst (λ n. AddsBelow n old.results.entries mid.results.entries) c.in_ok-name.ensures c.in_ok-done.ensures.below_name) c.in_ok-answer.ensures.put
+    c.in_ok-done.ensures.below_name c.in_ok-answer.ensures.put
     (subst (λ (top : Task). new.top.log ≡ with_made top.log) c.in_ok-done.ensures.top c.in_ok-answer.ensures.log)
 
 pub run-returns-clause-done : goal.run-returns-clause-done
 run-returns-clause-done t c =
     let old = c.args.self.now in
     IfOk-weaker c.run_above.result _ _ (λ done is known knows.
-    begun_done (around_of c.args.around.now) c.args.levels c.args.name c.in_ok-machine.machine c.args.body c.args.values (view_of (with_top old.below.items old.top)) known
+    begun_done (around_of c.args.around.now) c.args.levels c.args.name.now c.in_ok-machine.machine c.args.body c.args.values (view_of (with_top old.below.items old.top)) known
     c.run_above.new.self.results.entries (with_top old.below.items old.top) done.task done.end
     c.in_ok-machine.ensures.body c.in_ok-machine.ensures.values c.in_ok-machine.ensures.answers (is known knows)) c.run_above.ensures.done
 
@@ -72,7 +70,7 @@ run_above-returns-in-Ok-clause-results t c =
 pub run_above-returns-in-Ok-clause-below_name : goal.run_above-returns-in-Ok-clause-below_name
 run_above-returns-in-Ok-clause-below_name t c =
     IfOk-weaker c.leave.result _ _ (λ done is.
-    adds_below c.args.self.now.results.entries c.begin.new.self.results.entries c.turns.new.self.results.entries c.leave.new.self.results.entries c.begin.new.self.top.log c.turns.new.self.top.log c.args.name
+    adds_below c.args.self.now.results.entries c.begin.new.self.results.entries c.turns.new.self.results.entries c.leave.new.self.results.entries c.begin.new.self.top.log c.turns.new.self.top.log c.args.name.now
     c.in_ok-begin.ensures.results c.leave.ensures.results c.in_ok-begin.ensures.log c.in-Ok.ensures.made) c.leave.ensures.done
 
 pub run_above-returns-in-Ok-clause-done : goal.run_above-returns-in-Ok-clause-done
@@ -81,7 +79,7 @@ run_above-returns-in-Ok-clause-done t c =
     let machine = c.args.machine.now in
     IfOk-weaker c.leave.result _ _ (λ done is known knows.
     child_done old.results.entries c.begin.new.self.results.entries c.turns.new.self.results.entries c.leave.new.self.results.entries
-    old.below.items c.begin.new.self.below.items c.turns.new.self.below.items old.top c.begin.new.self.top c.turns.new.self.top (new_log c.args.name)
+    old.below.items c.begin.new.self.below.items c.turns.new.self.below.items old.top c.begin.new.self.top c.turns.new.self.top (new_log c.args.name.now)
     (around_of c.args.around.now) c.args.levels (call_below (around_of c.args.around.now) c.args.levels) machine.body machine.values machine.answers c.in-Ok.end done
     c.in_ok-begin.ensures.results c.in_ok-begin.ensures.below c.in_ok-begin.ensures.log c.in_ok-begin.ensures.known c.leave.ensures.results c.in-Ok.ensures.below is.0 is.1
     c.in-Ok.ensures.ended known knows) c.leave.ensures.done
