@@ -1,5 +1,5 @@
 use serial_model::{End, Entry, History, Limits, LineKind, Trace};
-use std::alloc::Global;
+use std::alloc::{AllocError, Global};
 use std::test::Fail;
 use trace_text::{TraceNo, read_trace, write_trace};
 use value_core::{Code, Name, Place};
@@ -12,44 +12,69 @@ fn refusal(alloc: Global, bytes: &[u8]) -> Option<(LineKind, u64)> {
     }
 }
 
+/// The history of that one entry.
+fn history_of(alloc: Global, entry: Entry) -> Result<History, AllocError> {
+    let mut history = History::new(alloc);
+    history.push(entry)?;
+    Ok(history)
+}
+
+/// Whether that is the text of the trace.
+fn is_text(alloc: Global, trace: &Trace, text: &[u8]) -> Result<bool, AllocError> {
+    Ok(write_trace(alloc, trace)?.items() == text)
+}
+
 #[test]
 fn the_run_of_an_empty_program_is_four_lines(rt: HostRuntime) -> Result<(), Fail> {
-    let mut history = History::new(rt.alloc());
-    history.push(Entry::Run(Name::main(rt.alloc())?))?;
+    let entry = Entry::Run(Name::main(rt.alloc())?);
     let trace = Trace {
         limits: Limits::default(),
-        history,
+        history: history_of(rt.alloc(), entry)?,
         end: End::Done,
     };
-    assert_eq!(rt;
-        write_trace(rt.alloc(), &trace)?.items(),
-        b"chocola-trace 1\nlimits 1000000 100000\nrun 0\nend done\n".as_slice()
-    );
+    let text = b"chocola-trace 1\nlimits 1000000 100000\nrun 0\nend done\n";
+    assert!(rt; is_text(rt.alloc(), &trace, text.as_slice())?);
     Ok(())
+}
+
+/// An entry in which an actor takes a message of main.
+fn taken_from_main(alloc: Global) -> Result<Entry, AllocError> {
+    let main = Name::main(alloc)?;
+    let actor = main.child(alloc, 2)?;
+    Ok(Entry::Take(actor, main))
+}
+
+/// A fault of main in line 3.
+fn fault_of_main(alloc: Global) -> Result<End, AllocError> {
+    let unit = Name::main(alloc)?;
+    Ok(End::Fault {
+        code: Code::FutureEscapes,
+        at: Place::new(3, 27),
+        unit,
+    })
 }
 
 #[test]
 fn an_actor_stands_before_its_sender_and_a_line_before_its_column(
     rt: HostRuntime,
 ) -> Result<(), Fail> {
-    let main = Name::main(rt.alloc())?;
-    let actor = main.child(rt.alloc(), 2)?;
-    let mut history = History::new(rt.alloc());
-    history.push(Entry::Take(actor, main))?;
+    let history = history_of(rt.alloc(), taken_from_main(rt.alloc())?)?;
     let trace = Trace {
         limits: Limits::default(),
         history,
-        end: End::Fault {
-            code: Code::FutureEscapes,
-            at: Place::new(3, 27),
-            unit: Name::main(rt.alloc())?,
-        },
+        end: fault_of_main(rt.alloc())?,
     };
-    assert_eq!(rt;
-        write_trace(rt.alloc(), &trace)?.items(),
-        b"chocola-trace 1\nlimits 1000000 100000\ntake 0.2 0\nend fault 7 3:27 0\n".as_slice()
-    );
+    let text = b"chocola-trace 1\nlimits 1000000 100000\ntake 0.2 0\nend fault 7 3:27 0\n";
+    assert!(rt; is_text(rt.alloc(), &trace, text.as_slice())?);
     Ok(())
+}
+
+/// Whether the text is read, and written again just so.
+fn is_written_again(alloc: Global, text: &[u8]) -> Result<bool, AllocError> {
+    match read_trace(alloc, text) {
+        Ok(trace) => is_text(alloc, &trace, text),
+        Err(_) => Ok(false),
+    }
 }
 
 #[test]
@@ -63,10 +88,7 @@ fn texts_are_read_and_written_again(rt: HostRuntime) -> Result<(), Fail> {
         b"chocola-trace 1\nlimits 7 8\ntake 0 0.0.0\nend spent 0.1.0\n",
     ];
     for text in table {
-        match read_trace(rt.alloc(), text) {
-            Ok(trace) => assert_eq!(rt; write_trace(rt.alloc(), &trace)?.items(), text),
-            Err(_) => assert!(rt; false, "a trace's text is refused"),
-        }
+        assert!(rt; is_written_again(rt.alloc(), text)?);
     }
     Ok(())
 }

@@ -1,4 +1,5 @@
 use command_words::{Command, WordsNo, read_words};
+use serial_model::Limits;
 use std::alloc::{AllocError, Global};
 use std::test::Fail;
 use value_core::Text;
@@ -15,37 +16,78 @@ fn read(alloc: Global, line: &str) -> Result<Result<Command, WordsNo>, AllocErro
 /// What the command says, as one line.
 fn line_of(alloc: Global, said: Result<Command, WordsNo>) -> Result<String, AllocError> {
     match said {
-        Ok(
-            Command::Run {
-                file,
-                limits,
-                trace,
-            },
-        ) => {
-            let (file, trace) = (name_of(alloc, &file)?, traced(alloc, trace)?);
-            let (fuel, units) = (limits.fuel(), limits.units());
-            format!(in alloc; "run {file} {fuel} {units} {trace}")
-        }
-        Ok(Command::Replay { file, trace }) => {
-            let (file, trace) = (name_of(alloc, &file)?, name_of(alloc, &trace)?);
-            format!(in alloc; "replay {file} {trace}")
-        }
-        Ok(Command::Check { file }) => {
-            let file = name_of(alloc, &file)?;
-            format!(in alloc; "check {file}")
-        }
+        Ok(command) => line_of_command(alloc, &command),
         Err(refusal) => format!(in alloc; "{refusal}"),
     }
+}
+
+fn line_of_command(alloc: Global, command: &Command) -> Result<String, AllocError> {
+    match command {
+        Command::Run {
+            file,
+            limits,
+            trace,
+        } => line_of_run(alloc, file, *limits, trace),
+        Command::Replay { file, trace } => line_of_replay(alloc, file, trace),
+        Command::Check { file } => line_of_check(alloc, file),
+    }
+}
+
+fn line_of_run(
+    alloc: Global,
+    file: &Text,
+    limits: Limits,
+    trace: &Option<Text>,
+) -> Result<String, AllocError> {
+    let file = name_of(alloc, file)?;
+    let trace = traced(alloc, trace)?;
+    let (fuel, units) = (limits.fuel(), limits.units());
+    format!(in alloc; "run {file} {fuel} {units} {trace}")
+}
+
+fn line_of_replay(alloc: Global, file: &Text, trace: &Text) -> Result<String, AllocError> {
+    let file = name_of(alloc, file)?;
+    let trace = name_of(alloc, trace)?;
+    format!(in alloc; "replay {file} {trace}")
+}
+
+fn line_of_check(alloc: Global, file: &Text) -> Result<String, AllocError> {
+    let file = name_of(alloc, file)?;
+    format!(in alloc; "check {file}")
 }
 
 fn name_of(alloc: Global, text: &Text) -> Result<String, AllocError> {
     String::from_utf8_lossy(alloc, text.items())
 }
 
-fn traced(alloc: Global, trace: Option<Text>) -> Result<String, AllocError> {
+fn traced(alloc: Global, trace: &Option<Text>) -> Result<String, AllocError> {
     match trace {
-        Some(text) => name_of(alloc, &text),
+        Some(text) => name_of(alloc, text),
         None => String::from_str(alloc, "untraced"),
+    }
+}
+
+/// Whether these words say that.
+fn says(alloc: Global, words: &str, line: &str) -> Result<bool, AllocError> {
+    let said = read(alloc, words)?;
+    let found = line_of(alloc, said)?;
+    Ok(found.as_str() == line)
+}
+
+/// Whether these words are no command.
+fn is_refused(alloc: Global, words: &str) -> Result<bool, AllocError> {
+    match read(alloc, words)? {
+        Err(refusal) => Ok(refusal == WordsNo::Usage),
+        Ok(_) => Ok(false),
+    }
+}
+
+/// Whether it is no command to say nothing.
+fn is_nothing_refused(alloc: Global) -> bool {
+    let none: Vec<String> = Vec::new(alloc);
+    match read_words(alloc, none.as_slice()) {
+        Err(refusal) => refusal == WordsNo::Usage,
+        Ok(_) => false,
     }
 }
 
@@ -70,87 +112,45 @@ fn reads(rt: HostRuntime) -> Result<(), Fail> {
         ("check check", "check check"),
     ];
     for (words, line) in rows {
-        let said = read(rt.alloc(), words)?;
-        assert_eq!(rt; line_of(rt.alloc(), said)?.as_str(), line, "{words}");
+        assert!(rt; says(rt.alloc(), words, line)?, "{words}");
     }
     Ok(())
 }
 
-#[test]
-fn refuses(rt: HostRuntime) -> Result<(), Fail> {
-    let lines = [
-        // No command, or an unknown one.
-        "",
-        "help",
-        "ru a",
-        "Run a",
-        "--fuel=5 run a",
-        // An option comes twice or has no value.
-        "run a --fuel 5 --fuel 5",
-        "run a --fuel=5 --fuel 6",
-        "run --trace t --trace=t a",
-        "run a --fuel",
-        "run a --trace",
-        // A value or a word in a place is empty or begins with a dash.
-        "run ",
-        "run  a",
-        "run a --trace=",
-        "run a --trace ",
-        "run --trace --fuel=5 a",
-        "run --trace -t a",
-        "run --trace=-t a",
-        "run --trace - a",
-        "run -",
-        "run --",
-        "run -- a",
-        "run -h",
-        "run --help",
-        "--help",
-        "-h",
-        "--version",
-        "run --version a",
-        "run a --fue 5",
-        "run a --fuels 5",
-        "run a -fuel 5",
-        "run a --=5",
-        "run a --fuel -- 5",
-        "replay a --trace=t",
-        "replay a --trace t",
-        "check --fuel=5 a",
-        // Too few words, or too many.
-        "run",
-        "run --fuel 5",
-        "run a b",
-        "run a --fuel 5 6",
-        "replay a",
-        "replay a t u",
-        "check",
-        "check a b",
-        // No number, or one out of its range.
-        "run a --fuel 05",
-        "run a --fuel 00",
-        "run a --fuel +5",
-        "run a --fuel 5x",
-        "run a --fuel 1_000",
-        "run a --fuel 0",
-        "run a --units 0",
-        "run a --fuel 10000001",
-        "run a --units 1000001",
-        "run a --units 4294967297",
-        "run a --fuel 18446744073709551617",
-        "run a --fuel 99999999999999999999",
-        "run a --fuel 100000000000000000000",
-    ];
-    for line in lines {
-        match read(rt.alloc(), line)? {
-            Err(refusal) => assert_eq!(rt; refusal, WordsNo::Usage, "{line}"),
-            Ok(_) => assert!(rt; false, "taken: {line}"),
+/// No command, or an unknown one.
+const UNKNOWN: &str = "\nhelp\nru a\nRun a\n--fuel=5 run a";
+
+/// An option comes twice or has no value.
+const OPTIONS: &str =
+    "run a --fuel 5 --fuel 5\nrun a --fuel=5 --fuel 6\nrun --trace t --trace=t a\nrun a --fuel\nrun a --trace";
+
+/// A value or a word in a place is empty or begins with a dash.
+const VALUES: &str =
+    "run \nrun  a\nrun a --trace=\nrun a --trace \nrun --trace --fuel=5 a\nrun --trace -t a\nrun --trace=-t a\nrun --trace - a\nrun -\nrun --\nrun -- a\nrun -h\nrun --help\n--help\n-h\n--version\nrun --version a\nrun a --fue 5\nrun a --fuels 5\nrun a -fuel 5\nrun a --=5\nrun a --fuel -- 5\nreplay a --trace=t\nreplay a --trace t\ncheck --fuel=5 a";
+
+/// Too few words, or too many.
+const COUNTS: &str =
+    "run\nrun --fuel 5\nrun a b\nrun a --fuel 5 6\nreplay a\nreplay a t u\ncheck\ncheck a b";
+
+/// No number, or one out of its range.
+const NUMBERS: &str =
+    "run a --fuel 05\nrun a --fuel 00\nrun a --fuel +5\nrun a --fuel 5x\nrun a --fuel 1_000\nrun a --fuel 0\nrun a --units 0\nrun a --fuel 10000001\nrun a --units 1000001\nrun a --units 4294967297\nrun a --fuel 18446744073709551617\nrun a --fuel 99999999999999999999\nrun a --fuel 100000000000000000000";
+
+/// Whether none of these lines is a command.
+fn are_refused(alloc: Global, lines: &str) -> Result<bool, AllocError> {
+    for line in lines.split('\n') {
+        if !is_refused(alloc, line)? {
+            return Ok(false);
         }
     }
-    let none: Vec<String> = Vec::new(rt.alloc());
-    match read_words(rt.alloc(), none.as_slice()) {
-        Err(refusal) => assert_eq!(rt; refusal, WordsNo::Usage),
-        Ok(_) => assert!(rt; false, "taken without a word"),
+    Ok(true)
+}
+
+#[test]
+fn refuses(rt: HostRuntime) -> Result<(), Fail> {
+    for lines in [UNKNOWN, OPTIONS, VALUES, COUNTS, NUMBERS] {
+        assert!(rt; are_refused(rt.alloc(), lines)?, "one is taken: {lines}");
     }
+    assert!(rt; is_nothing_refused(rt.alloc()));
     Ok(())
 }
