@@ -1,18 +1,18 @@
 -- What stands in one place is changed: all is kept, and nothing else is lent otherwise.
-use Rattle.std.proofs.Common.{◌≡◌, ◌≢◌, ◌<◌, ◌≤◌, ◌∙◌, ◌⊎◌, ℕ, Bool, List, Option, Some, None, IsSome, true, false, cond, length, inl, inr, refl, sym, ap, subst, arith}
+use Rattle.std.proofs.Common.{◌≡◌, ◌≢◌, ◌≤◌, ◌∙◌, ℕ, Bool, List, Option, Some, None, IsSome, true, false, cond, length, inl, inr, refl, sym, ap, subst, arith}
 use Rattle.std.specs.Option.{IfSome, option_and_then, option_map}
 use Rattle.std.proofs.lemmas.Bool.{cases_eq}
-use Rattle.piece_table.specs.Table.{AreTied as AreTiedIn, IsUnlent as IsUnlentIn, Table}
+use Rattle.piece_table.specs.Table.{AreTied as AreTiedIn, IsUnlent as IsUnlentIn}
 use Rattle.record_pool.specs.Tickets.{IsPut}
 use Rattle.piece_table.specs.declared.piece.Piece.{Piece as Kept}
 use Rattle.record_pool.proofs.Finds.{cases_ticket}
-use Rattle.record_pool.specs.Pool.{Pool, find, next_of}
-use Rattle.unit_table.specs.Board.{Board, AreTied, IsPutAt, IsUnlent, NoneAgain, SameClaims, but_for, lent_at, lent_in, lent_to, marks_ready, name_in, piece_at}
-use Rattle.unit_table.specs.Keeping.{HasSlot, HasTicket, IsFlagged, IsKept, IsPlace, need_at, slot_at, waits_for}
+use Rattle.record_pool.specs.Pool.{find, next_of}
+use Rattle.unit_table.specs.Board.{Board, IsPutAt, IsUnlent, NoneAgain, SameClaims, but_for, lent_at, lent_in, lent_to, marks_ready, name_in}
+use Rattle.unit_table.specs.Keeping.{HasSlot, HasTicket, IsKept, IsPlace, need_at, slot_at, waits_for}
 use Rattle.unit_table.specs.declared.piece.Piece.{Piece}
 use Rattle.unit_table.specs.declared.record.Record.{Record}
-use Rattle.value_core.proofs.NamedLaws.{named-here, named-other, same_name-equal, same_name-itself, same_or_not, still_named}
-use Rattle.value_core.specs.Named.{Name, Named, named, same_name, with_named}
+use Rattle.value_core.proofs.NamedLaws.{same_name-equal, same_name-itself, same_or_not}
+use Rattle.value_core.specs.Named.{Name, named, same_name}
 use Rattle.value_core.specs.declared.ticket.Ticket.{Ticket}
 use Rattle.wait_lists.specs.WaitLists.{need_of}
 

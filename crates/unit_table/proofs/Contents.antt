@@ -1,12 +1,9 @@
 -- What stands in a place is changed, and its mark is not.
-use Rattle.std.proofs.Common.{◌≡◌, ◌≢◌, ◌<◌, ◌≤◌, ◌+◌, ◌∙◌, ◌⊎◌, ℕ, Bool, List, Option, Some, None, IsSome, true, false, cond, length, inl, inr, refl, sym, ap, subst, arith}
+use Rattle.std.proofs.Common.{◌≡◌, ◌∙◌, ℕ, List, Option, Some, None, IsSome, inl, inr, refl, sym, ap, subst, arith}
 use Rattle.std.specs.Option.{IfSome, option_and_then, option_map}
-use Rattle.piece_table.specs.Table.{IsUnlent as IsUnlentIn, Table}
-use Rattle.record_pool.specs.Tickets.{IsPut}
 use Rattle.piece_table.specs.declared.piece.Piece.{Piece as Kept}
-use Rattle.record_pool.specs.Pool.{find}
 use Rattle.unit_table.specs.Board.{Board, IsPutAt, SameClaims, actor_at, lent_at, lent_in, mark_at, marks_ready, piece_at, unit_at}
-use Rattle.unit_table.specs.Keeping.{IsKept, IsPlace, need_at, waits_for}
+use Rattle.unit_table.specs.Keeping.{IsKept, IsPlace, SameSlots, need_at, waits_for}
 use Rattle.unit_table.specs.Piece.{actor_in, awaited, mark_in, moved, says_ready, unit_in, with_state}
 use Rattle.unit_table.specs.declared.piece.Actor.{Actor}
 use Rattle.unit_table.specs.declared.piece.Piece.{Piece}
@@ -19,8 +16,6 @@ use Rattle.unit_table.proofs.Changes as changes
 use Rattle.unit_table.proofs.Changes.{Changes}
 use Rattle.value_core.proofs.NamedLaws.{named-here, named-other, same_or_not}
 use Rattle.value_core.specs.Named.{IsChanged, IsChangedTo, Name, Named, named, with_named}
-use Rattle.value_core.specs.declared.ticket.Ticket.{Ticket}
-use Rattle.wait_lists.specs.WaitLists.{need_of}
 
 some_same : {X : Type 0} (x y : X) → Some x ≡ Some y → x ≡ y
 some_same x y e = cc
@@ -98,6 +93,9 @@ module _ (b : Board) (records : Named Record) (waits : List (Option ℕ)) (name 
   pub content_places : (q : Name) → IsSome (named q b.records) → IsSome (named q records)
   content_places = changes.there_still b (with_records b records) waits waits name r (Some (f p)) place.kept.lent kept changes_it
 
+  pub content_slots : SameSlots b (with_records b records)
+  content_slots = changes.slot_same b (with_records b records) waits waits name r (Some (f p)) place.kept.lent kept changes_it
+
   pub content_claims : SameClaims b (with_records b records)
   content_claims = record {
     lent = λ q. elim (same_or_not q name) [
@@ -166,6 +164,9 @@ module _ (b : Board) (records : Named Record) (waits : List (Option ℕ)) (name 
   pub moved_places : (q : Name) → IsSome (named q b.records) → IsSome (named q records)
   moved_places = content_places b records waits name (moved machine made) (piece.Unit found.kept) kept found.stands refl changed
 
+  pub moved_slots : SameSlots b (with_records b records)
+  moved_slots = content_slots b records waits name (moved machine made) (piece.Unit found.kept) kept found.stands refl changed
+
   pub moved_put : IfSome (unit_at b name) (λ unit. IsPutAt name (Some (piece.Unit (record unit { machine = machine; made = made }))) b (with_records b records))
   moved_put = subst (λ o. IfSome o (λ unit. IsPutAt name (Some (piece.Unit (record unit { machine = machine; made = made }))) b (with_records b records))) (sym (ap (option_and_then unit_in) found.stands))
       (content_put b records waits name (moved machine made) (piece.Unit found.kept) kept found.stands refl changed)
@@ -183,6 +184,9 @@ module _ (b : Board) (records : Named Record) (waits : List (Option ℕ)) (name 
 
   pub state_places : (q : Name) → IsSome (named q b.records) → IsSome (named q records)
   state_places = content_places b records waits name (with_state state) (piece.Actor actor.kept) kept actor.stands refl changed
+
+  pub state_slots : SameSlots b (with_records b records)
+  state_slots = content_slots b records waits name (with_state state) (piece.Actor actor.kept) kept actor.stands refl changed
 
   pub state_put : IfSome (mark_at b name) (λ mark. IsPutAt name (Some (piece.Actor (record { state = state; mark = mark }))) b (with_records b records))
   state_put = subst (λ o. IfSome o (λ mark. IsPutAt name (Some (piece.Actor (record { state = state; mark = mark }))) b (with_records b records))) (sym (ap (option_map mark_in) actor.stands))

@@ -1,15 +1,15 @@
 -- What is ready, what is lent and taken back.
-use Rattle.std.proofs.Common.{◌≡◌, ◌≢◌, ◌<◌, ◌≤◌, ◌+◌, ◌&&◌, ◌∙◌, ◌⊎◌, ℕ, Bool, List, Option, Some, None, IsSome, Result, Ok, Err, true, false, cond, length, inl, inr, refl, sym, ap, subst, arith, true≢false}
-use Rattle.std.specs.Prelude.{IfOk, IfErr, IfNone, OnErr, IsTrue}
+use Rattle.std.proofs.Common.{◌≡◌, ◌&&◌, ◌∙◌, ℕ, Bool, List, Option, Some, None, Result, Ok, Err, true, false, refl, sym, ap, subst, arith, true≢false}
+use Rattle.std.specs.Prelude.{IfOk, OnErr}
 use Rattle.std.specs.declared.alloc.AllocError.{AllocError}
 use Rattle.std.specs.Option.{IfSome, option_and_then, option_map}
-use Rattle.piece_table.specs.Table.{AreTied as AreTiedIn, CanLend, IsTakenBack, IsUnlent as IsUnlentIn, Table, can_lend, has_free, is_free}
+use Rattle.piece_table.specs.Table.{AreTied as AreTiedIn, CanLend, IsTakenBack, IsUnlent as IsUnlentIn, Table, has_free, is_free}
 use Rattle.record_pool.specs.Tickets.{HasMoreRoom, IsGiven, IsPut}
 use Rattle.piece_table.specs.declared.piece.Piece.{Piece as Kept}
 use Rattle.record_pool.proofs.Finds.{same_finds}
-use Rattle.record_pool.specs.Pool.{Pool, find, next_of}
-use Rattle.unit_table.specs.Board.{AreTied, Board, IsLent, IsUnlent, SameClaims, SamePieces, is_ready, lent_at, lent_in, lent_to, marks_ready, name_in, piece_at}
-use Rattle.unit_table.specs.Keeping.{HasTicket, IsKept, IsPlace, need_at, ticket_at, waits_for}
+use Rattle.record_pool.specs.Pool.{find, next_of}
+use Rattle.unit_table.specs.Board.{AreTied, Board, IsLent, IsUnlent, SameClaims, is_ready, lent_at, lent_in, lent_to, marks_ready, name_in, piece_at}
+use Rattle.unit_table.specs.Keeping.{HasTicket, IsKept, IsPlace, ticket_at}
 use Rattle.unit_table.specs.declared.record.Record.{Record}
 use Rattle.unit_table.proofs.Changes as changes
 use Rattle.unit_table.proofs.Changes.{Changes}
@@ -17,7 +17,6 @@ use Rattle.unit_table.proofs.Sames as sames
 use Rattle.unit_table.proofs.Sames.{Same}
 use Rattle.value_core.specs.Named.{Name, named}
 use Rattle.value_core.specs.declared.ticket.Ticket.{Ticket}
-use Rattle.wait_lists.specs.WaitLists.{need_of}
 
 some_same : {X : Type 0} (x y : X) → Some x ≡ Some y → x ≡ y
 some_same x y e = cc
@@ -114,6 +113,24 @@ module _ (b : Board) (waits : List (Option ℕ)) (kept : IsKept b waits) where
           let place = kept.places name r there in
           let lent : place.kept.lent ≡ Some claim = sym (ap (option_and_then (λ (k : Kept). k.lent)) place.there) ∙ sym (ap (option_and_then (λ (p : Record). lent_in b.table p.ticket)) there) ∙ is in
           ap (option_and_then (λ (t : Ticket). name_in b.names t.slot)) (kept.tied.lent r.ticket claim place.kept place.there lent) ∙ place.called
+
+  -- what is lent can be done something with
+  pub lent_are_ready : (claim : Ticket) (name : Name) → lent_to b claim ≡ Some name → marks_ready (piece_at b name) ≡ true
+  lent_are_ready claim name to = on (named name b.records) refl
+    where
+      lent : lent_at b name ≡ Some claim
+      lent = tied_by_name.lends claim name to
+
+      on_place : (r : Record) → named name b.records ≡ Some r → (t : Bool) → marks_ready r.piece ≡ t → t ≡ true
+      on_place r there true is = refl
+      on_place r there false is =
+          let place = kept.places name r there in
+          let free : lent_at b name ≡ None = ap (option_and_then (λ (p : Record). lent_in b.table p.ticket)) there ∙ ap (option_and_then (λ (k : Kept). k.lent)) place.there ∙ place.idle (place.ready ∙ is) in
+          none_some (lent_at b name) claim free lent
+
+      on : (found : Option Record) → named name b.records ≡ found → marks_ready (piece_at b name) ≡ true
+      on None absent = none_some (lent_at b name) claim (ap (option_and_then (λ (p : Record). lent_in b.table p.ticket)) absent) lent
+      on (Some r) there = ap marks_ready (ap (option_and_then (λ (p : Record). p.piece)) there) ∙ on_place r there (marks_ready r.piece) refl
 
 -- the same places over another table
 abbrev pub with_table : Board → Table → Board

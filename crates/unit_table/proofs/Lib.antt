@@ -1,6 +1,9 @@
 pub mod Changes
 pub mod Contents
 pub mod Lending
+pub mod Nexts
 pub mod Noting
+pub mod OpenUnits
 pub mod Sames
+pub mod Slots
 pub mod Wakes

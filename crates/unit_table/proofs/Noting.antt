@@ -1,9 +1,9 @@
 -- A piece is noted in the table, and put into its place.
-use Rattle.std.proofs.Common.{◌≡◌, ◌≢◌, ◌<◌, ◌≤◌, ◌+◌, ◌∙◌, ◌⊎◌, ℕ, Bool, List, Option, Some, None, IsSome, true, false, cond, length, inl, inr, refl, sym, ap, subst, arith}
+use Rattle.std.proofs.Common.{◌≡◌, ◌<◌, ◌∙◌, ℕ, Bool, List, Option, Some, None, IsSome, length, refl, sym, ap, subst, arith}
 use Rattle.std.specs.Option.{IfSome, option_and_then, option_map}
 use Rattle.record_pool.specs.Pool.{find}
 use Rattle.unit_table.specs.Board.{Board, CanWait, IsPutAt, IsUnlent, SameClaims, marks_ready, name_in, piece_at}
-use Rattle.unit_table.specs.Keeping.{HasTicket, IsEmptyPlace, IsKept, IsMarkedAs, IsNoted, IsPlace, board_of, need_at, ticket_at, waits_for}
+use Rattle.unit_table.specs.Keeping.{IsEmptyPlace, IsKept, IsMarkedAs, IsNoted, SameSlots, board_of, need_at, ticket_at, waits_for}
 use Rattle.unit_table.specs.Piece.{awaited, mark_in, marked, says_ready, with_mark}
 use Rattle.unit_table.specs.declared.mark.Mark.{Mark}
 use Rattle.unit_table.specs.declared.mark.Mark.TheVariants as marking
@@ -17,7 +17,6 @@ use Rattle.unit_table.proofs.Lending.{place_of}
 use Rattle.value_core.proofs.NamedLaws.{named-here, named-other}
 use Rattle.value_core.specs.Named.{IsChanged, IsChangedTo, Name, Named, named, with_named}
 use Rattle.value_core.specs.declared.ticket.Ticket.{Ticket}
-use Rattle.wait_lists.specs.WaitLists.{need_of}
 
 some_same : {X : Type 0} (x y : X) → Some x ≡ Some y → x ≡ y
 some_same x y e = cc
@@ -107,6 +106,9 @@ module _ (old mid : Places) (records : Named Record) (name : Name) (ticket : Tic
   pub noted_places : (q : Name) → IsSome (named q old.records.entries) → IsSome (named q records)
   noted_places = changes.there_still (board_of old) b_2 old.waits mid.waits name r piece None kept noted_changes
 
+  pub noted_slots : SameSlots (board_of old) b_2
+  noted_slots = changes.slot_same (board_of old) b_2 old.waits mid.waits name r piece None kept noted_changes
+
   pub noted_ticket : ticket_at records name ≡ Some ticket
   noted_ticket = ap (option_map (λ (p : Record). p.ticket)) noted_changes.here ∙ ap Some place_at.2
 
@@ -144,6 +146,9 @@ module _ (old mid : Places) (records : Named Record) (ticket : Ticket) (piece : 
 
   pub filled_places : (q : Name) → IsSome (named q old.records.entries) → IsSome (named q records)
   filled_places = noted_places old mid records place.name ticket (Some piece) _ kept place.there notes changes_place (λ r after there is. is) waits_none
+
+  pub filled_slots : SameSlots (board_of old) (noted_board mid records)
+  filled_slots = noted_slots old mid records place.name ticket (Some piece) _ kept place.there notes changes_place (λ r after there is. is) waits_none
 
   pub filled_put : (name : Name) → ticket_at old.records.entries name ≡ Some ticket → IsPutAt name (Some piece) (board_of old) (noted_board mid records)
   filled_put name is =
@@ -214,3 +219,6 @@ module _ (old mid : Places) (records : Named Record) (name : Name) (ticket : Tic
 
   pub marked_places : (q : Name) → IsSome (named q old.records.entries) → IsSome (named q records)
   marked_places = noted_places old mid records name ticket then (IsMarkedAs mark) kept is notes_mark marks_place puts_mark waits_there
+
+  pub marked_slots : SameSlots (board_of old) (noted_board mid records)
+  marked_slots = noted_slots old mid records name ticket then (IsMarkedAs mark) kept is notes_mark marks_place puts_mark waits_there

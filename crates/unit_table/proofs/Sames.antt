@@ -1,16 +1,16 @@
 -- What changes nothing that is known of the places, and a place that is made.
-use Rattle.std.proofs.Common.{◌≡◌, ◌≢◌, ◌<◌, ◌≤◌, ◌+◌, ◌∙◌, ◌⊎◌, ℕ, Bool, List, Option, Some, None, IsSome, true, false, cond, length, inl, inr, refl, sym, ap, subst, arith}
+use Rattle.std.proofs.Common.{◌≡◌, ◌≢◌, ◌<◌, ◌≤◌, ◌+◌, ◌∙◌, ℕ, List, Option, Some, None, IsSome, false, length, inl, inr, refl, sym, ap, subst, arith}
 use Rattle.std.specs.Option.{IfSome, option_and_then, option_map}
-use Rattle.std.proofs.lemmas.Bool.{cases_eq}
 use Rattle.piece_table.specs.Table.{AreTied as AreTiedIn, IsUnlent as IsUnlentIn, Table}
 use Rattle.record_pool.specs.Tickets.{IsGiven, IsPut}
 use Rattle.piece_table.specs.declared.piece.Piece.{Piece as Kept}
 use Rattle.record_pool.proofs.Finds.{cases_ticket, place_found}
-use Rattle.record_pool.specs.Pool.{Pool, find, next_of, place_at}
-use Rattle.unit_table.specs.Board.{Board, HasPlace, SameClaims, SamePieces, lent_at, lent_in, lent_to, marks_ready, name_in, piece_at}
-use Rattle.unit_table.specs.Keeping.{HasSlot, HasTicket, IsKept, IsNoSlotMade, IsPlace, IsSlotMade, board_of, need_at, slot_at, ticket_at, waits_for}
+use Rattle.record_pool.specs.Pool.{Pool, find, next_of}
+use Rattle.unit_table.specs.Board.{Board, HasPlace, SameClaims, SamePieces, lent_at, lent_in, lent_to, name_in, piece_at}
+use Rattle.unit_table.specs.Keeping.{IsKept, IsNoSlotMade, IsPlace, IsSlotMade, KeepsSlots, board_of, need_at, slot_at, ticket_at, waits_for}
 use Rattle.unit_table.specs.declared.places.Places.{Places}
 use Rattle.unit_table.specs.declared.record.Record.{Record}
+use Rattle.unit_table.proofs.Slots.{has_place}
 use Rattle.value_core.proofs.NamedLaws.{named-here, named-other, same_or_not}
 use Rattle.value_core.specs.Named.{Name, Named, named, with_named}
 use Rattle.value_core.specs.declared.ticket.Ticket.{Ticket}
@@ -56,6 +56,12 @@ module _ (b b_2 : Board) (waits waits_2 : List (Option ℕ)) (kept : IsKept b wa
     tied = same.tied;
   }
 
+  pub same_keeps_slots : KeepsSlots b b_2
+  same_keeps_slots = record {
+    kept = λ q has. ap (λ rs. slot_at rs q) same.records;
+    near = λ q slot is. inl (has_place b q slot (sym (ap (λ rs. slot_at rs q) same.records) ∙ is));
+  }
+
   pub same_pieces : SamePieces b b_2
   same_pieces q = ap (λ rs. option_and_then (λ (p : Record). p.piece) (named q rs)) same.records
 
@@ -84,6 +90,7 @@ pub record Makes (b b_2 : Board) (waits waits_2 : List (Option ℕ)) (name : Nam
   pub claims : b_2.table.claims ≡ b.table.claims
   pub tied : AreTiedIn b_2.table.pieces b_2.table.claims
   pub called : name_in b_2.names ticket.slot ≡ Some name
+  pub near : ticket.slot ≤ length b.table.pieces.places
   pub others : (slot : ℕ) → slot ≢ ticket.slot → name_in b_2.names slot ≡ name_in b.names slot
   pub need : (slot : ℕ) → need_of waits_2 slot ≡ need_of waits slot
   pub room : length waits ≤ length waits_2
@@ -196,6 +203,17 @@ module _ (b b_2 : Board) (waits waits_2 : List (Option ℕ)) (name : Name) (tick
     tied = makes.tied;
   }
 
+  pub made_keeps_slots : KeepsSlots b b_2
+  made_keeps_slots = record {
+    kept = slot_kept;
+    near = λ q slot is. elim (same_or_not q name) [
+      | inl same ↦
+          let it : ticket.slot ≡ slot = some_same _ _ (sym (ap (slot_at b_2.records) same ∙ ap (option_map (λ (p : Record). p.ticket.slot)) here) ∙ is) in
+          inr (omega (arith, makes.near, it))
+      | inr apart ↦ inl (has_place b q slot (sym (ap (option_map (λ (p : Record). p.ticket.slot)) (other q apart)) ∙ is))
+    ];
+  }
+
   pub made_pieces : SamePieces b b_2
   made_pieces q = elim (same_or_not q name) [
     | inl same ↦ ap (piece_at b_2) same ∙ ap (option_and_then (λ (p : Record). p.piece)) here ∙ sym (ap (piece_at b) same ∙ ap (option_and_then (λ (p : Record). p.piece)) makes.absent)
@@ -259,6 +277,7 @@ makes_of old mid records name ticket absent made put tied = record {
   claims = made.waits.claims;
   tied = tied;
   called = made.called;
+  near = made.near;
   others = made.others;
   need = made.waits.need;
   room = made.waits.room;

@@ -1,5 +1,5 @@
 -- Who waits for a finish is ready to settle.
-use Rattle.std.proofs.Common.{◌≡◌, ◌≢◌, ◌<◌, ◌≤◌, ◌+◌, ◌∙◌, ◌⊎◌, ℕ, suc, Bool, List, Option, Some, None, IsSome, true, false, cond, count_by, is_some, length, inl, inr, refl, sym, ap, subst, arith, true≢false}
+use Rattle.std.proofs.Common.{◌≡◌, ◌≢◌, ◌<◌, ◌∙◌, ℕ, Bool, List, Option, Some, None, IsSome, true, false, cond, is_some, length, inl, inr, refl, sym, ap, subst, arith}
 use Rattle.std.specs.Option.{IfSome, option_and_then, option_map}
 use Rattle.std.proofs.Common.{length-set, set}
 use Rattle.std.proofs.lemmas.List.{get_or-set_other, get_or-set_same}
@@ -8,7 +8,7 @@ use Rattle.piece_table.specs.Table.{AreTied as AreTiedIn, Table}
 use Rattle.record_pool.specs.Tickets.{IsPut}
 use Rattle.record_pool.specs.Pool.{find}
 use Rattle.unit_table.specs.Board.{Board, SameClaims, marks_ready, name_in, piece_at}
-use Rattle.unit_table.specs.Keeping.{HasSlot, IsFlagged, IsKept, IsMarkedAs, IsPlace, IsSettled, IsWokenOrSame, NoneWaits, board_of, need_at, slot_at, waiting_count, waits_for}
+use Rattle.unit_table.specs.Keeping.{HasSlot, IsFlagged, IsKept, IsMarkedAs, IsPlace, IsSettled, IsWokenOrSame, NoneWaits, SameSlots, board_of, need_at, slot_at, waiting_count, waits_for}
 use Rattle.unit_table.specs.Piece.{awaited, is_for, mark_in, marked, says_ready, with_mark, woken}
 use Rattle.unit_table.specs.declared.mark.Mark.{Mark}
 use Rattle.unit_table.specs.declared.mark.Mark.TheVariants as mark
@@ -180,8 +180,11 @@ module _ (old : Places) (waits_2 : List (Option ℕ)) (records : Named Record) (
   pub wakes_places : (q : Name) → IsSome (named q old.records.entries) → IsSome (named q records)
   wakes_places = changes.there_still (board_of old) b_2 old.waits waits_2 has.name r (Some woken_piece) None kept wakes_it
 
+  pub wakes_slots : SameSlots (board_of old) b_2
+  wakes_slots = changes.slot_same (board_of old) b_2 old.waits waits_2 has.name r (Some woken_piece) None kept wakes_it
+
   pub wakes_slot : slot_at records name ≡ Some slot
-  wakes_slot = changes.slot_same (board_of old) b_2 old.waits waits_2 has.name r (Some woken_piece) None kept wakes_it name ∙ is
+  wakes_slot = wakes_slots name ∙ is
 
   pub wakes_pieces : IsWokenOrSame name (board_of old) b_2
   wakes_pieces other = elim (same_or_not other has.name) [

@@ -1,17 +1,21 @@
 -- What stands under each name, and what is lent.
-use Rattle.std.specs.Prelude.{◌≡◌, ◌≤◌, ◌&&◌, ℕ, Bool, List, Option, None, Some, cond, false, true, refl, slice_index_or}
+use Rattle.std.specs.Prelude.{◌≡◌, ◌≤◌, ◌&&◌, ℕ, Bool, List, Option, None, Some, cond, false, true, refl, slice_index_or, ⊤}
+use Rattle.std.specs.Ordering.{is_gt}
+use Rattle.std.specs.declared.cmp.Ordering.TheVariants.{Less}
 use Rattle.std.specs.Coded.{Coded, code_by, coded×, coded_list, coded_option, coded_ℕ}
 use Rattle.std.specs.Option.{IfSome, IsSome, option_and_then, option_map}
 use Rattle.piece_table.specs.Table.{Table, is_free, table_code}
 use Rattle.piece_table.specs.declared.piece.Piece.{Piece as Kept}
 use Rattle.record_pool.specs.Pool.{find, next_of}
-use Rattle.unit_table.specs.Piece.{actor_in, awaited, beside, mark_in, marked, says_ready, unit_in}
+use Rattle.unit_table.specs.Piece.{actor_in, awaited, beside, goes_on, mark_in, marked, says_ready, unit_in}
 use Rattle.unit_table.specs.contracts.record.Record as record_row
 use Rattle.unit_table.specs.declared.mark.Mark.{Mark}
 use Rattle.unit_table.specs.declared.piece.Piece.{Piece}
 use Rattle.unit_table.specs.declared.record.Record.{Record}
 use Rattle.unit_table.specs.declared.unit.Unit.{Unit}
 use Rattle.serial_model.specs.declared.actor_state.ActorState.{ActorState}
+use Rattle.value_core.specs.Name.{after_cmp}
+use Rattle.value_core.specs.NameSet.{holds_at}
 use Rattle.value_core.specs.Named.{Name, Named, named, same_name}
 use Rattle.value_core.specs.declared.ticket.Ticket.{Ticket}
 
@@ -28,8 +32,11 @@ board_code = code_by (Named Record × (List (Option Name) × Table))
     (λ b. (b.records, (b.names, b.table))) (λ p. record { records = p.0; names = p.1.0; table = p.1.1 }) (λ _. refl)
 
 -- what stands under the name
+abbrev pub piece_in : Named Record → Name → Option Piece
+piece_in records name = option_and_then (λ (r : Record). r.piece) (named name records)
+
 abbrev pub piece_at : Board → Name → Option Piece
-piece_at b name = option_and_then (λ (r : Record). r.piece) (named name b.records)
+piece_at b name = piece_in b.records name
 
 -- the unit, the actor and the mark under the name
 abbrev pub unit_at : Board → Name → Option Unit
@@ -40,6 +47,10 @@ actor_at b name = option_and_then actor_in (piece_at b name)
 
 abbrev pub mark_at : Board → Name → Option Mark
 mark_at b name = option_map mark_in (piece_at b name)
+
+-- a unit stands under the name that is not finished
+abbrev pub is_unfinished : Board → Name → Bool
+is_unfinished b name = holds_at goes_on (piece_at b name)
 
 -- something stands under the name, or there is room that it can
 abbrev pub HasPlace : Board → Name → Type 0
@@ -72,6 +83,24 @@ marks_ready (Some p) = says_ready (mark_in p)
 -- something can be done with what stands under the name, and it is not lent
 abbrev pub is_ready : Board → Name → Bool
 is_ready b name = marks_ready (piece_at b name) && is_free (lent_at b name)
+
+-- what is lent can be done something with
+abbrev pub LentAreReady : Board → Type 0
+LentAreReady b = (claim : Ticket) (name : Name) → lent_to b claim ≡ Some name → marks_ready (piece_at b name) ≡ true
+
+-- a name comes after that one in after-order; all names come where it is none
+abbrev pub ComesAfter : Option Name → Name → Type 0
+ComesAfter None next = ⊤
+ComesAfter (Some name) next = after_cmp name next ≡ Less
+
+-- what stands under the next name is the first that comes after that one
+pub record IsNextIn (records : Named Record) (name : Option Name) (next : Name) : Type 0 where
+  pub there : IsSome (piece_in records next)
+  pub after : ComesAfter name next
+  pub first : (other : Name) → ComesAfter name other → IsSome (piece_in records other) → is_gt (after_cmp next other) ≡ false
+
+abbrev pub IsNextAfter : Board → Option Name → Name → Type 0
+IsNextAfter b name next = IsNextIn b.records name next
 
 -- no claim that was given out will be given out again
 abbrev pub NoneAgain : Board → Board → Type 0

@@ -1,11 +1,14 @@
 -- How pieces are kept. No public clause speaks of it.
-use Rattle.std.specs.Prelude.{◌≡◌, ◌≢◌, ◌⊎◌, ◌<◌, ◌≤◌, ℕ, Bool, List, Option, None, Some, count_by, false, is_some, length, true}
+use Rattle.std.specs.Prelude.{◌≡◌, ◌≢◌, ◌⊎◌, ◌<◌, ◌≤◌, ℕ, Bool, List, Option, None, Some, count_by, false, is_some, length, slice_set, true}
+use Rattle.std.specs.declared.ops.Bound.{Bound}
+use Rattle.std.specs.declared.ops.Bound.TheVariants.{Excluded, Unbounded}
 use Rattle.std.specs.Option.{IfSome, IsSome, option_and_then, option_map}
 use Rattle.piece_table.specs.Table.{AreTied, IsUnlent, Table}
 use Rattle.record_pool.specs.Tickets.{IsGiven, IsPut}
 use Rattle.piece_table.specs.declared.piece.Piece.{Piece as Kept}
 use Rattle.record_pool.specs.Pool.{find}
-use Rattle.unit_table.specs.Board.{Board, marks_ready, name_in, piece_at}
+use Rattle.slot_set.specs.SlotSet.{has_slot}
+use Rattle.unit_table.specs.Board.{Board, HasPlace, is_unfinished, marks_ready, name_in, piece_at}
 use Rattle.unit_table.specs.Piece.{awaited, is_for, mark_in, marked, woken}
 use Rattle.unit_table.specs.declared.mark.Mark.{Mark}
 use Rattle.unit_table.specs.declared.mark.Mark.TheVariants as mark
@@ -27,6 +30,11 @@ ticket_at records name = option_map (λ (r : Record). r.ticket) (named name reco
 
 abbrev pub slot_at : Named Record → Name → Option ℕ
 slot_at records name = option_map (λ (r : Record). r.ticket.slot) (named name records)
+
+-- from where on the names come after that one
+abbrev pub after_bound : Option Name → Bound Name
+after_bound None = Unbounded
+after_bound (Some name) = Excluded name
 
 -- for whose finish what stands there waits
 abbrev pub waits_for : Option Piece → Option Name
@@ -75,6 +83,25 @@ pub record IsKept (b : Board) (waits : List (Option ℕ)) : Type 0 where
   pub waiting : (slot need : ℕ) → need_of waits slot ≡ Some need → HasSlot b slot
   pub tied : AreTied b.table.pieces b.table.claims
 
+-- The set has the slots of the units that are not finished, and room for each place.
+pub record AreUnfinished (b : Board) (set : List Bool) : Type 0 where
+  pub room : (name : Name) (slot : ℕ) → slot_at b.records name ≡ Some slot → slot < length set
+  pub flag : (name : Name) (slot : ℕ) → slot_at b.records name ≡ Some slot → has_slot set slot ≡ is_unfinished b name
+  pub only : (slot : ℕ) → has_slot set slot ≡ true → HasSlot b slot
+
+-- the set has the slot of the name where a unit stands there that is not finished, and is else as it was
+abbrev pub IsUnfinishedNoted : Board → Name → List Bool → List Bool → Type 0
+IsUnfinishedNoted b name old new = IfSome (slot_at b.records name) (λ slot. new ≡ slice_set old slot (is_unfinished b name))
+
+-- the places have the slots that they had
+abbrev pub SameSlots : Board → Board → Type 0
+SameSlots old new = (name : Name) → slot_at new.records name ≡ slot_at old.records name
+
+-- each place keeps its slot; a new one has one that was made before, or the next
+pub record KeepsSlots (old new : Board) : Type 0 where
+  pub kept : (name : Name) → HasPlace old name → slot_at new.records name ≡ slot_at old.records name
+  pub near : (name : Name) (slot : ℕ) → slot_at new.records name ≡ Some slot → HasPlace old name ⊎ (slot ≤ length old.table.pieces.places)
+
 -- the piece of the ticket has that flag and is lent no more
 pub record IsFlagged (old new : Table) (ticket : Ticket) (is_ready : Bool) : Type 0 where
   pub put : IsPut old.pieces new.pieces ticket (Some (record { is_ready = is_ready; lent = None }))
@@ -113,6 +140,7 @@ pub record IsSlotMade (old new : Places) (name : Name) (ticket : Ticket) : Type 
   pub called : name_in new.names.items ticket.slot ≡ Some name
   pub others : (slot : ℕ) → slot ≢ ticket.slot → name_in new.names.items slot ≡ name_in old.names.items slot
   pub can_wait : ticket.slot < length new.waits
+  pub near : ticket.slot ≤ length old.table.pieces.places
 
 -- no piece more
 pub record IsNoSlotMade (old new : Places) : Type 0 where

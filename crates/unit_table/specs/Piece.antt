@@ -1,5 +1,5 @@
 -- Pieces and their marks.
-use Rattle.std.specs.Prelude.{ℕ, Bool, Option, None, Some, cond, false, true}
+use Rattle.std.specs.Prelude.{ℕ, Bool, Option, None, Some, cond, false, not, true}
 use Rattle.std.specs.Option.{option_map}
 use Rattle.unit_table.specs.declared.mark.Mark.{Mark}
 use Rattle.unit_table.specs.declared.mark.Mark.TheVariants as mark
@@ -51,6 +51,11 @@ says_ready _ = false
 abbrev pub says_finished : Mark → Bool
 says_finished (mark.Finished v) = true
 says_finished _ = false
+
+-- the piece is a unit that is not finished
+abbrev pub goes_on : Piece → Bool
+goes_on (piece.Unit unit) = not (says_finished unit.mark)
+goes_on p = false
 
 -- a piece of that mark is gone
 abbrev pub says_dropped : Mark → Bool

@@ -5,6 +5,7 @@ mod mark;
 mod piece;
 mod places;
 mod record;
+mod unfinished;
 mod unit;
 mod units;
 mod waking;

@@ -2,10 +2,11 @@ ghost use Rattle.std.specs.Prelude.{◌≡◌, ◌<◌, ◌↔◌, ℕ, None, So
 ghost use Rattle.std.specs.Option.{IsSome, option_and_then, option_copied};
 ghost use Rattle.record_pool.specs.Pool.{find as found};
 ghost use Rattle.unit_table.specs.Board.{actor_at, is_ready, lent_to, mark_at, name_in, piece_at, unit_at, CanWait, HasPlace, IsLent, IsMarked, IsPutAt, IsUnlent, SameClaims, SamePieces};
-ghost use Rattle.unit_table.specs.Keeping.{board_of, need_at, ticket_at, IsEmptyPlace, IsKept, IsNoSlotMade, IsNoted, IsSlotMade};
+ghost use Rattle.unit_table.specs.Keeping.{board_of, need_at, ticket_at, IsEmptyPlace, IsKept, IsNoSlotMade, IsNoted, IsSlotMade, KeepsSlots, SameSlots};
 ghost use Rattle.unit_table.specs.Piece.{awaited, mark_in, marked};
 ghost use Rattle.value_core.specs.Named.{named, IsChanged, Name as Called};
 ghost use Rattle.unit_table.specs.declared.piece.Piece.TheVariants as piece;
+ghost use Rattle.value_core.specs.declared.ticket.Ticket.{Ticket as Numbered};
 ghost use Rattle.wait_lists.specs.WaitLists.{need_of};
 
 use crate::mark::{Mark, WaitOn};
@@ -35,6 +36,7 @@ impl Places {
     pub(crate) fn new(alloc: Global) -> Self
         ensures kept { IsKept (board_of result) result.waits }
         ensures pieces { (name : Called) → named name result.records.entries ≡ None }
+        ensures claims { (claim : Numbered) → lent_to (board_of result) claim ≡ None }
     {
         let places = Places {
             records: BTreeMap::new(alloc),
@@ -53,23 +55,9 @@ impl Places {
         ticket_in(&self.records, name)
     }
 
-    /// Makes a place under the name, where there is none; or finds no memory, and nothing stands otherwise.
-    pub(crate) fn reserve(&mut self, alloc: Global, name: &Name) -> Result<(), AllocError>
-        requires { IsKept (board_of self.old) self.old.waits }
-        ensures kept { IsKept (board_of self.new) self.new.waits }
-        ensures pieces { SamePieces (board_of self.old) (board_of self.new) }
-        ensures claims { SameClaims (board_of self.old) (board_of self.new) }
-        ensures place { OnOk result (HasPlace (board_of self.new) name.now) }
-        ensures places { (other : Called) → HasPlace (board_of self.old) other → HasPlace (board_of self.new) other }
-    {
-        if self.ticket_of(name).is_none() {
-            self.make(alloc, name)?;
-        }
-        Ok(())
-    }
-
-    /// Makes a place under the name, where there is none, and answers its ticket.
-    fn make(&mut self, alloc: Global, name: &Name) -> Result<Ticket, AllocError>
+    /// Makes a place under the name, where there is none, and answers its ticket; or finds no memory, and nothing stands
+    /// otherwise.
+    pub(crate) fn make(&mut self, alloc: Global, name: &Name) -> Result<Ticket, AllocError>
         requires kept { IsKept (board_of self.old) self.old.waits }
         requires new { named name.now (board_of self.old).records ≡ None }
         ensures kept { IsKept (board_of self.new) self.new.waits }
@@ -77,6 +65,7 @@ impl Places {
         ensures pieces { SamePieces (board_of self.old) (board_of self.new) }
         ensures claims { SameClaims (board_of self.old) (board_of self.new) }
         ensures places { (other : Called) → HasPlace (board_of self.old) other → HasPlace (board_of self.new) other }
+        ensures slots { KeepsSlots (board_of self.old) (board_of self.new) }
     {
         let key = name.copy(alloc)?;
         let ticket = self.make_slot(alloc, name)?;
@@ -107,23 +96,6 @@ impl Places {
         Ok(ticket)
     }
 
-    /// The ticket of the place under the name, which is made where there is none; or finds no memory, and nothing stands
-    /// otherwise.
-    pub(crate) fn place(&mut self, alloc: Global, name: &Name) -> Result<Ticket, AllocError>
-        requires { IsKept (board_of self.old) self.old.waits }
-        ensures kept { IsKept (board_of self.new) self.new.waits }
-        ensures ticket { IfOk result (λ ticket. ticket_at (board_of self.new).records name.now ≡ Some ticket) }
-        ensures pieces { SamePieces (board_of self.old) (board_of self.new) }
-        ensures claims { SameClaims (board_of self.old) (board_of self.new) }
-        ensures succeeds { HasPlace (board_of self.old) name.now → IsOk result }
-        ensures places { (other : Called) → HasPlace (board_of self.old) other → HasPlace (board_of self.new) other }
-    {
-        match self.ticket_of(name) {
-            Some(ticket) => Ok(ticket),
-            None => self.make(alloc, name),
-        }
-    }
-
     /// Puts the piece into the place of the ticket, which is empty. It takes no memory.
     pub(crate) fn fill(&mut self, ticket: Ticket, piece: Piece)
         requires kept { IsKept (board_of self.old) self.old.waits }
@@ -133,6 +105,7 @@ impl Places {
         ensures put { (name : Called) → ticket_at (board_of self.old).records name ≡ Some ticket → IsPutAt name (Some piece) (board_of self.old) (board_of self.new) }
         ensures claims { SameClaims (board_of self.old) (board_of self.new) }
         ensures places { (other : Called) → HasPlace (board_of self.old) other → HasPlace (board_of self.new) other }
+        ensures slots { SameSlots (board_of self.old) (board_of self.new) }
     {
         let is_ready = piece.mark().is_ready();
         self.note(ticket, is_ready, None);
@@ -149,6 +122,7 @@ impl Places {
         ensures marked { IsMarked name.now mark (board_of self.old) (board_of self.new) }
         ensures claims { IsUnlent name.now (board_of self.old) (board_of self.new) }
         ensures places { (other : Called) → HasPlace (board_of self.old) other → HasPlace (board_of self.new) other }
+        ensures slots { SameSlots (board_of self.old) (board_of self.new) }
     {
         if let Some(ticket) = self.ticket_of(name) {
             let is_finished = mark.is_finished();
@@ -170,6 +144,7 @@ impl Places {
         ensures claims { IsUnlent name.now (board_of self.old) (board_of self.new) }
         ensures ticket { ticket_at (board_of self.new).records name.now ≡ Some ticket }
         ensures places { (other : Called) → HasPlace (board_of self.old) other → HasPlace (board_of self.new) other }
+        ensures slots { SameSlots (board_of self.old) (board_of self.new) }
     {
         let is_ready = mark.is_ready();
         let need = self.need_of(&mark);
@@ -206,6 +181,7 @@ impl Places {
         ensures moved { IfSome (unit_at (board_of self.old) name.now) (λ unit. IsPutAt name.now (Some (piece.Unit (record unit { machine = machine; made = made }))) (board_of self.old) (board_of self.new)) }
         ensures claims { SameClaims (board_of self.old) (board_of self.new) }
         ensures places { (other : Called) → HasPlace (board_of self.old) other → HasPlace (board_of self.new) other }
+        ensures slots { SameSlots (board_of self.old) (board_of self.new) }
     {
         move_unit(&mut self.records, name, machine, made);
     }
@@ -218,6 +194,7 @@ impl Places {
         ensures set { IfSome (mark_at (board_of self.old) name.now) (λ mark. IsPutAt name.now (Some (piece.Actor (record { state = state; mark = mark }))) (board_of self.old) (board_of self.new)) }
         ensures claims { SameClaims (board_of self.old) (board_of self.new) }
         ensures places { (other : Called) → HasPlace (board_of self.old) other → HasPlace (board_of self.new) other }
+        ensures slots { SameSlots (board_of self.old) (board_of self.new) }
     {
         set_actor(&mut self.records, name, state);
     }
@@ -261,7 +238,7 @@ impl Places {
     }
 
     /// The name that has the slot.
-    fn name_in(&self, slot: usize) -> Option<&Name>
+    pub(crate) fn name_in(&self, slot: usize) -> Option<&Name>
         ensures { option_copied result ≡ name_in self.now.names.items slot }
     {
         match self.names.get(slot) {
@@ -279,6 +256,7 @@ impl Places {
         ensures pieces { SamePieces (board_of self.old) (board_of self.new) }
         ensures same { OnErr result (SameClaims (board_of self.old) (board_of self.new)) }
         ensures places { (other : Called) → HasPlace (board_of self.old) other → HasPlace (board_of self.new) other }
+        ensures slots { SameSlots (board_of self.old) (board_of self.new) }
     {
         match self.ticket_of(name) {
             Some(ticket) => {
@@ -309,6 +287,7 @@ impl Places {
         ensures unlent { IfSome (lent_to (board_of self.old) claim) (λ name. IsUnlent name (board_of self.old) (board_of self.new)) }
         ensures same { IfNone (lent_to (board_of self.old) claim) (SameClaims (board_of self.old) (board_of self.new)) }
         ensures places { (other : Called) → HasPlace (board_of self.old) other → HasPlace (board_of self.new) other }
+        ensures slots { SameSlots (board_of self.old) (board_of self.new) }
     {
         match self.table.piece_of(claim) {
             Some(_) => {

@@ -1,15 +1,17 @@
-ghost use Rattle.std.specs.Prelude.{◌≡◌, None, Some, OnErr, OnOk};
-ghost use Rattle.std.specs.Option.{option_map};
-ghost use Rattle.unit_table.specs.Keeping.{slot_at, ticket_at, IsMarkedAs};
+ghost use Rattle.std.specs.Prelude.{◌≡◌, None, Some, IfNone, IfSome, OnErr, OnOk};
+ghost use Rattle.std.specs.Option.{option_copied, option_map};
+ghost use Rattle.std.specs.Range.Bound.{bound_map};
+ghost use Rattle.unit_table.specs.Board.{piece_in, ComesAfter, IsNextIn};
+ghost use Rattle.unit_table.specs.Keeping.{after_bound, slot_at, ticket_at, IsMarkedAs};
 ghost use Rattle.unit_table.specs.Piece.{moved, with_mark, with_state};
-ghost use Rattle.value_core.specs.Named.{with_named, IsChanged};
+ghost use Rattle.value_core.specs.Named.{with_named, IsChanged, Name as Called};
 
 use crate::mark::Mark;
 use crate::piece::{Piece, machine_goes};
 use eval_step::Machine;
 use serial_model::ActorState;
 use std::alloc::AllocError;
-use std::collections::BTreeMap;
+use std::collections::{BTreeMap, Bound};
 use std::mem;
 use value_core::name_map::{find, put};
 use value_core::{Name, Ticket};
@@ -38,6 +40,32 @@ pub(crate) fn slot_in(records: &BTreeMap<Name, Record>, name: &Name) -> Option<u
     match find(records, name) {
         Some(place) => Some(place.ticket.slot),
         None => None,
+    }
+}
+
+/// The first name after this one under which something stands, or of all where none is given.
+pub(crate) fn next_after<'a>(
+    records: &'a BTreeMap<Name, Record>,
+    name: Option<&Name>,
+) -> Option<&'a Name>
+    ensures some { IfSome (option_copied result) (IsNextIn records.now.entries (option_copied name.entry)) }
+    ensures none { IfNone (option_copied result) ((other : Called) → ComesAfter (option_copied name.entry) other → piece_in records.now.entries other ≡ None) }
+{
+    for (next, place) in records.range((start_after(name), Bound::Unbounded)) {
+        if place.piece.is_some() {
+            return Some(next);
+        }
+    }
+    None
+}
+
+/// From where on the names come after this one.
+fn start_after(name: Option<&Name>) -> Bound<&Name>
+    ensures { bound_map (λ q. q.now) result ≡ after_bound (option_copied name.entry) }
+{
+    match name {
+        Some(name) => Bound::Excluded(name),
+        None => Bound::Unbounded,
     }
 }
 

@@ -1,6 +1,6 @@
 ghost use Rattle.std.specs.Prelude.{◌≡◌, ◌↔◌, None, Some, IfNone, IfOk, IfSome, IsOk, IsTrue, OnErr, OnOk, false, true};
 ghost use Rattle.std.specs.Option.{IsSome, option_copied};
-ghost use Rattle.unit_table.specs.Board.{actor_at, is_ready, lent_to, mark_at, piece_at, unit_at, AreTied, CanWait, HasPlace, IsLent, IsMarked, IsPutAt, IsUnlent, SameClaims, SamePieces};
+ghost use Rattle.unit_table.specs.Board.{actor_at, is_ready, is_unfinished, lent_to, mark_at, piece_at, unit_at, AreTied, CanWait, ComesAfter, HasPlace, IsLent, IsMarked, IsNextAfter, IsPutAt, IsUnlent, LentAreReady, SameClaims, SamePieces};
 ghost use Rattle.unit_table.specs.declared.mark.Mark.TheVariants as mark;
 ghost use Rattle.unit_table.specs.declared.mark.Work.TheVariants as work;
 ghost use Rattle.unit_table.specs.declared.piece.Piece.TheVariants as piece;
@@ -10,9 +10,12 @@ ghost use Rattle.value_core.specs.declared.ticket.Ticket.{Ticket as Numbered};
 use crate::mark::{Mark, Work};
 use crate::piece::{Actor, Piece, machine_goes};
 use crate::places::Places;
+use crate::record::next_after;
+use crate::unfinished::{first, note, place};
 use crate::unit::{Unit, UnitKind};
 use eval_step::Machine;
 use serial_model::ActorState;
+use slot_set::SlotSet;
 use std::alloc::{AllocError, Global};
 use std::marker::Model;
 use value_core::{Name, Ticket};
@@ -22,11 +25,13 @@ use value_core::{Name, Ticket};
 #[derive(Drop)]
 pub struct Units {
     places: Places,
+    // The slots of the units that are not finished.
+    unfinished: SlotSet,
 }
 
 impl Model for Units {
     ghost use Rattle.unit_table.specs.Board.{Board, board_code};
-    ghost use Rattle.unit_table.specs.Keeping.{board_of, IsKept};
+    ghost use Rattle.unit_table.specs.Keeping.{board_of, AreUnfinished, IsKept};
 
     ghost Value = { Board };
 
@@ -34,7 +39,7 @@ impl Model for Units {
 
     ghost view = { λ u. board_of u.places };
 
-    ghost invariant = { λ u. IsKept (board_of u.places) u.places.waits };
+    ghost invariant = { λ u. IsKept (board_of u.places) u.places.waits × AreUnfinished (board_of u.places) u.unfinished };
 }
 
 impl Units {
@@ -45,6 +50,7 @@ impl Units {
     {
         Units {
             places: Places::new(alloc),
+            unfinished: SlotSet::new(alloc),
         }
     }
 
@@ -56,7 +62,8 @@ impl Units {
         ensures place { OnOk result (HasPlace self.new name.now) }
         ensures places { (other : Called) → HasPlace self.old other → HasPlace self.new other }
     {
-        self.places.reserve(alloc, name)
+        place(&mut self.places, &mut self.unfinished, alloc, name)?;
+        Ok(())
     }
 
     /// Adds a unit that has made nothing and is ready to go on. Where there is a place for it, it takes no memory, and
@@ -75,10 +82,11 @@ impl Units {
         ensures succeeds { HasPlace self.old name → IsOk result }
         ensures places { (other : Called) → HasPlace self.old other → HasPlace self.new other }
     {
-        match self.places.place(alloc, &name) {
+        match place(&mut self.places, &mut self.unfinished, alloc, &name) {
             Ok(ticket) => {
                 self.places
                     .fill(ticket, Piece::Unit(Unit::new(name, kind, machine)));
+                self.unfinished.insert(ticket.slot);
                 Ok(())
             }
             Err(error) => {
@@ -103,7 +111,7 @@ impl Units {
         ensures succeeds { HasPlace self.old name.now → IsOk result }
         ensures places { (other : Called) → HasPlace self.old other → HasPlace self.new other }
     {
-        let ticket = self.places.place(alloc, name)?;
+        let ticket = place(&mut self.places, &mut self.unfinished, alloc, name)?;
         let actor = Actor {
             state,
             mark: Mark::Resting,
@@ -122,7 +130,7 @@ impl Units {
         ensures succeeds { HasPlace self.old name.now → IsOk result }
         ensures places { (other : Called) → HasPlace self.old other → HasPlace self.new other }
     {
-        let ticket = self.places.place(alloc, name)?;
+        let ticket = place(&mut self.places, &mut self.unfinished, alloc, name)?;
         self.places
             .fill(ticket, Piece::Task(Mark::Ready(Work::Eval)));
         Ok(())
@@ -195,6 +203,7 @@ impl Units {
         ensures places { (other : Called) → HasPlace self.old other → HasPlace self.new other }
     {
         self.places.mark(name, mark);
+        note(&self.places, &mut self.unfinished, name);
     }
 
     /// Whether something can be done with what stands under the name, and it is not lent.
@@ -241,9 +250,33 @@ impl Units {
         self.places.take_back(claim)
     }
 
+    /// The name of a unit that is not finished. None exactly where each unit is finished. It touches a few words.
+    pub fn open_unit(&self) -> Option<&Name>
+        ensures some { IfSome (option_copied result) (λ name. is_unfinished self.now name ≡ true) }
+        ensures none { IfNone (option_copied result) ((name : Called) → is_unfinished self.now name ≡ false) }
+    {
+        first(&self.places, &self.unfinished)
+    }
+
+    /// What stands under the first name that comes after this one in after-order, or of all where none is given: that name.
+    /// None exactly where nothing does.
+    pub fn next_after(&self, name: Option<&Name>) -> Option<&Name>
+        ensures some { IfSome (option_copied result) (IsNextAfter self.now (option_copied name.entry)) }
+        ensures none { IfNone (option_copied result) ((other : Called) → ComesAfter (option_copied name.entry) other → piece_at self.now other ≡ None) }
+    {
+        next_after(&self.places.records, name)
+    }
+
     /// What is lent says by which claim, and each claim lends what says so. It does nothing.
     pub fn claims_are_tied(&self)
         ensures { AreTied self.now }
+    {
+        self.places.table.claims_are_tied();
+    }
+
+    /// What is lent can be done something with. It does nothing.
+    pub fn lent_are_ready(&self)
+        ensures { LentAreReady self.now }
     {
         self.places.table.claims_are_tied();
     }

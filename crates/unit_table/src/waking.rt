@@ -2,7 +2,7 @@ ghost use Rattle.std.specs.Prelude.{◌≡◌, ◌⊎◌, ◌<◌, IfSome, Some,
 ghost use Rattle.std.specs.Option.{IsSome, option_map};
 ghost use Rattle.record_pool.specs.Pool.{find};
 ghost use Rattle.unit_table.specs.Board.{name_in, piece_at, HasPlace, SameClaims};
-ghost use Rattle.unit_table.specs.Keeping.{board_of, slot_at, waiting_count, IsKept, IsSettled, IsWokenOrSame, NoneWaits};
+ghost use Rattle.unit_table.specs.Keeping.{board_of, slot_at, waiting_count, IsKept, IsSettled, IsWokenOrSame, NoneWaits, SameSlots};
 ghost use Rattle.unit_table.specs.Piece.{woken};
 ghost use Rattle.value_core.specs.Named.{named, Name as Called};
 
@@ -21,6 +21,7 @@ pub(crate) fn wake_all(places: &mut Places, name: &Name, slot: usize)
     ensures woken { (other : Called) → piece_at (board_of places.new) other ≡ option_map (woken name.now) (piece_at (board_of places.old) other) }
     ensures claims { SameClaims (board_of places.old) (board_of places.new) }
     ensures places { (other : Called) → HasPlace (board_of places.old) other → HasPlace (board_of places.new) other }
+    ensures slots { SameSlots (board_of places.old) (board_of places.new) }
 {
     while wake_one(places, name, slot) {}
 }
@@ -34,6 +35,7 @@ fn wake_one(places: &mut Places, name: &Name, slot: usize) -> bool
     ensures woken { IsWokenOrSame name.now (board_of places.old) (board_of places.new) }
     ensures claims { SameClaims (board_of places.old) (board_of places.new) }
     ensures places { (other : Called) → HasPlace (board_of places.old) other → HasPlace (board_of places.new) other }
+    ensures slots { SameSlots (board_of places.old) (board_of places.new) }
     ensures none { result ≡ false → NoneWaits name.now (board_of places.new) }
     ensures fewer { result ≡ false ⊎ (waiting_count places.new.waits < waiting_count places.old.waits) }
 {

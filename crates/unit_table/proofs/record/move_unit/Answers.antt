@@ -1,7 +1,6 @@
-use Rattle.std.proofs.Common.{◌≡◌, ap, Some}
+use Rattle.std.proofs.Common.{◌≡◌, ap}
 use Rattle.std.specs.Option.{option_copied_mut, option_map}
-use Rattle.unit_table.specs.Keeping.{IsMarkedAs}
-use Rattle.unit_table.specs.Piece.{moved, with_state}
+use Rattle.unit_table.specs.Piece.{moved}
 use Rattle.unit_table.specs.declared.record.Record.{Record}
 use Rattle.value_core.proofs.NameMaps.{changed, found_named}
 use Rattle.unit_table.proofs.record.move_unit.Goals as goal

@@ -1,8 +1,6 @@
-use Rattle.std.proofs.Common.{◌≡◌, ap, Some}
-use Rattle.std.specs.Option.{option_copied_mut, option_map}
+use Rattle.std.proofs.Common.{ap}
+use Rattle.std.specs.Option.{option_copied_mut}
 use Rattle.unit_table.specs.Keeping.{IsMarkedAs}
-use Rattle.unit_table.specs.Piece.{moved, with_state}
-use Rattle.unit_table.specs.declared.record.Record.{Record}
 use Rattle.value_core.proofs.NameMaps.{changed, found_named}
 use Rattle.unit_table.proofs.record.put_mark.Goals as goal
 

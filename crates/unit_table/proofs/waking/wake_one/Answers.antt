@@ -1,5 +1,5 @@
 use Rattle.unit_table.specs.Keeping.{board_of}
-use Rattle.unit_table.proofs.Wakes.{none_waits, slot_in_range, waiter_called, waiter_there, wakes_claims, wakes_keeps, wakes_pieces, wakes_places, wakes_slot}
+use Rattle.unit_table.proofs.Wakes.{none_waits, slot_in_range, waiter_called, waiter_there, wakes_claims, wakes_keeps, wakes_pieces, wakes_places, wakes_slot, wakes_slots}
 use Rattle.unit_table.proofs.waking.wake_one.Goals as goal
 
 pub wake-requires : goal.wake-requires
@@ -28,3 +28,6 @@ returns-in-None-clause-none c _ = none_waits (board_of c.args.places.now) c.args
 
 pub returns-in-Some-clause-places : goal.returns-in-Some-clause-places
 returns-in-Some-clause-places c = wakes_places c.args.places.now c.wake.new.self c.settle_slot.new.records.entries c.settle_slot.new.table c.args.name.now c.args.slot c.in-Some.waiting c.requires.kept c.requires.slot c.in-Some.ensures.was c.in-Some.ensures.taken c.settle_slot.ensures c.claims_are_tied.ensures
+
+pub returns-in-Some-clause-slots : goal.returns-in-Some-clause-slots
+returns-in-Some-clause-slots c = wakes_slots c.args.places.now c.wake.new.self c.settle_slot.new.records.entries c.settle_slot.new.table c.args.name.now c.args.slot c.in-Some.waiting c.requires.kept c.requires.slot c.in-Some.ensures.was c.in-Some.ensures.taken c.settle_slot.ensures c.claims_are_tied.ensures

@@ -1,8 +1,8 @@
-use Rattle.std.proofs.Common.{◌≡◌, ◌∙◌, Some, None, IsSome, ap, refl, sym, subst}
+use Rattle.std.proofs.Common.{◌∙◌, IsSome, ap, refl, sym, subst}
 use Rattle.unit_table.specs.Board.{name_in}
 use Rattle.unit_table.specs.Keeping.{board_of}
 use Rattle.unit_table.specs.Piece.{says_ready}
-use Rattle.unit_table.proofs.Noting.{filled_claims, filled_keeps, filled_places, filled_put, ticket_called, ticket_room, ticket_there}
+use Rattle.unit_table.proofs.Noting.{filled_claims, filled_keeps, filled_places, filled_put, filled_slots, ticket_called, ticket_room, ticket_there}
 use Rattle.unit_table.proofs.places.Places.fill.Goals as goal
 
 pub note-requires-clause-there : goal.note-requires-clause-there
@@ -26,3 +26,6 @@ returns-clause-put c = filled_put c.args.self.now c.note.new.self c.fill_slot.ne
 
 pub returns-clause-places : goal.returns-clause-places
 returns-clause-places c = filled_places c.args.self.now c.note.new.self c.fill_slot.new.records.entries c.args.ticket c.args.piece c.is_ready-is_ready.result c.requires.kept c.requires.place c.requires.idle c.note.ensures (c.is_ready-is_ready.ensures ∙ ap says_ready c.mark.ensures) c.fill_slot.ensures
+
+pub returns-clause-slots : goal.returns-clause-slots
+returns-clause-slots c = filled_slots c.args.self.now c.note.new.self c.fill_slot.new.records.entries c.args.ticket c.args.piece c.is_ready-is_ready.result c.requires.kept c.requires.place c.requires.idle c.note.ensures (c.is_ready-is_ready.ensures ∙ ap says_ready c.mark.ensures) c.fill_slot.ensures

@@ -1,4 +1,4 @@
-use Rattle.std.proofs.Common.{◌≡◌, ◌∙◌, true, false, ap, refl, sym, subst}
+use Rattle.std.proofs.Common.{◌≡◌, ◌∙◌, true, false, sym, subst}
 use Rattle.std.specs.Prelude.{IfNone}
 use Rattle.std.specs.Option.{IfSome}
 use Rattle.unit_table.specs.Board.{is_ready}

@@ -1,4 +1,4 @@
-use Rattle.std.proofs.Common.{◌≡◌, ◌∙◌, sym}
+use Rattle.std.proofs.Common.{◌∙◌, sym}
 use Rattle.unit_table.specs.Keeping.{board_of}
 use Rattle.unit_table.proofs.Lending.{absent_at, ready_at}
 use Rattle.unit_table.proofs.places.Places.is_ready.Goals as goal

@@ -1,6 +1,6 @@
-use Rattle.std.proofs.Common.{◌≡◌, ◌∙◌, sym, true≢false}
+use Rattle.std.proofs.Common.{◌∙◌, sym}
 use Rattle.unit_table.specs.Keeping.{board_of}
-use Rattle.unit_table.proofs.Lending.{absent_at, lending_keeps, lending_lends, lending_same, ready_at}
+use Rattle.unit_table.proofs.Lending.{lending_keeps, lending_lends, lending_same, ready_at}
 use Rattle.unit_table.proofs.places.Places.lend.Goals as goal
 
 pub lend-claim-requires : goal.lend-claim-requires

@@ -1,8 +1,5 @@
-use Rattle.std.proofs.Common.{◌≡◌, Some, None, IsSome, refl}
-use Rattle.std.specs.Option.{IfSome, option_map}
 use Rattle.unit_table.specs.Keeping.{board_of}
-use Rattle.unit_table.specs.Piece.{moved}
-use Rattle.unit_table.proofs.Contents.{moved_claims, moved_keeps, moved_places, moved_put}
+use Rattle.unit_table.proofs.Contents.{moved_claims, moved_keeps, moved_places, moved_put, moved_slots}
 use Rattle.unit_table.proofs.places.Places.move_unit.Goals as goal
 
 pub returns-clause-kept : goal.returns-clause-kept
@@ -16,3 +13,6 @@ returns-clause-claims c = moved_claims (board_of c.args.self.now) c.move_unit.ne
 
 pub returns-clause-places : goal.returns-clause-places
 returns-clause-places c = moved_places (board_of c.args.self.now) c.move_unit.new.records.entries c.args.self.now.waits c.args.name.now c.args.machine c.args.made c.requires.kept c.requires.there c.move_unit.ensures
+
+pub returns-clause-slots : goal.returns-clause-slots
+returns-clause-slots c = moved_slots (board_of c.args.self.now) c.move_unit.new.records.entries c.args.self.now.waits c.args.name.now c.args.machine c.args.made c.requires.kept c.requires.there c.move_unit.ensures

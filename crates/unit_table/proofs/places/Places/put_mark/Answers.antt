@@ -1,8 +1,8 @@
-use Rattle.std.proofs.Common.{◌≡◌, ◌<◌, ◌∙◌, Some, None, IsSome, ap, length, refl, sym, subst}
+use Rattle.std.proofs.Common.{◌<◌, length, sym, subst}
 use Rattle.std.specs.Option.{IfSome}
 use Rattle.unit_table.specs.Keeping.{board_of}
 use Rattle.unit_table.specs.Piece.{awaited}
-use Rattle.unit_table.proofs.Noting.{marked_keeps, marked_places, marked_put, marked_ticket, marked_unlent, need_room, ticket_room, ticket_there}
+use Rattle.unit_table.proofs.Noting.{marked_keeps, marked_places, marked_put, marked_slots, marked_ticket, marked_unlent, need_room, ticket_room, ticket_there}
 use Rattle.unit_table.proofs.places.Places.put_mark.Goals as goal
 
 pub note-requires-clause-there : goal.note-requires-clause-there
@@ -30,3 +30,6 @@ returns-clause-ticket c = marked_ticket c.args.self.now c.note.new.self c.put_ma
 
 pub returns-clause-places : goal.returns-clause-places
 returns-clause-places c = marked_places c.args.self.now c.note.new.self c.put_mark.new.records.entries c.args.name.now c.args.ticket c.args.mark c.is_ready-is_ready.result c.need_of-need.result c.requires.kept c.requires.ticket c.requires.there c.requires.can_wait c.note.ensures c.is_ready-is_ready.ensures c.need_of-need.ensures c.put_mark.ensures
+
+pub returns-clause-slots : goal.returns-clause-slots
+returns-clause-slots c = marked_slots c.args.self.now c.note.new.self c.put_mark.new.records.entries c.args.name.now c.args.ticket c.args.mark c.is_ready-is_ready.result c.need_of-need.result c.requires.kept c.requires.ticket c.requires.there c.requires.can_wait c.note.ensures c.is_ready-is_ready.ensures c.need_of-need.ensures c.put_mark.ensures

@@ -1,10 +1,10 @@
-use Rattle.std.proofs.Common.{◌≡◌, Some, None, IsSome, refl, sym, subst, true, false}
+use Rattle.std.proofs.Common.{IsSome, refl, sym, subst}
 use Rattle.std.specs.Option.{IfSome}
 use Rattle.piece_table.specs.Table.{IsTakenBack}
-use Rattle.std.specs.Prelude.{IfNone, IsTrue}
+use Rattle.std.specs.Prelude.{IfNone}
 use Rattle.unit_table.specs.Board.{SameClaims}
 use Rattle.unit_table.specs.Keeping.{board_of}
-use Rattle.unit_table.proofs.Lending.{back_keeps, back_unlent, lent_named, not_lent, with_table}
+use Rattle.unit_table.proofs.Lending.{back_keeps, back_unlent, lent_named, with_table}
 use Rattle.unit_table.proofs.places.Places.take_back.Goals as goal
 
 pub returns-in-Some-clause-kept : goal.returns-in-Some-clause-kept
