@@ -1,4 +1,5 @@
 pub mod Aborting
+pub mod Claiming
 pub mod Forking
 pub mod Gone
 pub mod Live

@@ -2,6 +2,7 @@
 #![tactic(auto)]
 
 mod attempts;
+mod claims;
 mod kept;
 mod snapshots;
 mod undoing;
