@@ -46,12 +46,12 @@ use Rattle.value_core.specs.Place.{Spot}
 pub unclaimed-keeps : (ticket : Ticket) (old new : Shared) → Stands old → IsUnclaimed ticket old new → Stands new
 unclaimed-keeps ticket old new st is = subst Stands (sym is.rest) (same-states old st new.board (same-pieces old.board new.board is.pieces) (machines-same (IsMachine old.setup) old.board new.board is.pieces st.machines))
 
--- what a unit comes to
-unit-gave : (old : Shared) → Stands old → (r : Returned) (u : Name) → IsLive old r u → (found : Given) (new : Shared) → GaveUnit old u found new → Stands new
-unit-gave old st r u live found new g = unit-keeps old st u g.unit here (next_of old.setup (unit_state g.unit)) refl found new g.gives tries
+-- what a unit comes to that is not finished
+pub unit-gave : (old : Shared) → Stands old → old.end ≡ None → (u : Name) → ((x : Unit) → unit_at old.board u ≡ Some x → (unit_state x).finished ≡ None) → (found : Given) (new : Shared) → GaveUnit old u found new → Stands new
+unit-gave old st on_going u not_done found new g = unit-keeps old st u g.unit here (next_of old.setup (unit_state g.unit)) refl found new g.gives tries
   where
     here : IsHere old u (unit_state g.unit)
-    here = record { going = going old r u live; there = state-there old.board u g.unit g.there; unfinished = unfinished old r u g.unit live g.there }
+    here = record { going = on_going; there = state-there old.board u g.unit g.there; unfinished = not_done g.unit g.there }
 
     tries : (attempt : Option Attempt) → named u old.attempts ≡ attempt → (body : NodeId) (values : List Value) (at : Spot) → next_of old.setup (unit_state g.unit) ≡ halt.Ask (request.Dosync body values) at
         → Tries old u g.unit body values at attempt found new → Stands new
@@ -88,8 +88,11 @@ task-keeps old st on_going u x task tree unit_there there none (Some machine) is
     on_going u x r.after unit_there (named-here u r.after old.attempts) task none r.went (end_at r.after) refl found new r.comes
 task-keeps old st on_going u x task tree unit_there there none None is found new r = root-keeps old st on_going u x tree unit_there there r.ended r.is_ended found new r.comes
 
+pub task-gave : (old : Shared) → Stands old → old.end ≡ None → (name : Name) (found : Given) (new : Shared) → GaveTask old name found new → Stands new
+task-gave old st on_going name found new g =
+    task-keeps old st on_going g.owner g.unit name g.tree g.unit_there g.attempt (no-unit old.board name g.mark g.there) (machine_of g.tree name) refl found new g.gives
+
 pub gave-keeps : (old new : Shared) (r : Returned) (found : Given) → Stands old → Gave old r found new → Stands new
 gave-keeps old new r found st (gave.stale none is same) = unclaimed-keeps r.ticket old new st same
-gave-keeps old new r found st (gave.unit name live g) = unit-gave old st r name live found new g
-gave-keeps old new r found st (gave.task name live g) =
-    task-keeps old st (going old r name live) g.owner g.unit name g.tree g.unit_there g.attempt (no-unit old.board name g.mark g.there) (machine_of g.tree name) refl found new g.gives
+gave-keeps old new r found st (gave.unit name live g) = unit-gave old st (going old r name live) name (λ x there. unfinished old r name x live there) found new g
+gave-keeps old new r found st (gave.task name live g) = task-gave old st (going old r name live) name found new g

@@ -3,6 +3,7 @@ pub mod Commits
 pub mod Effects
 pub mod Gone
 pub mod Kept
+pub mod Later
 pub mod Lists
 pub mod Live
 pub mod Opens

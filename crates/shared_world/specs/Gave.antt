@@ -1,10 +1,10 @@
 -- What a result that is given back answers and changes.
-use Rattle.std.specs.Prelude.{◌≡◌, Bool, None, Some}
+use Rattle.std.specs.Prelude.{◌≡◌, ◌||◌, ◌&&◌, Bool, None, Some, is_some, not}
 use Rattle.serial_model.specs.Step.{next_of}
 use Rattle.shared_world.specs.declared.given.Given.{Given}
 use Rattle.shared_world.specs.declared.given.Given.TheVariants as given
 use Rattle.shared_world.specs.Returned.{IsLive, Returned}
-use Rattle.shared_world.specs.rows.Pieces.{ClaimsEnd, piece_or_task}
+use Rattle.shared_world.specs.rows.Pieces.{ClaimsEnd}
 use Rattle.shared_world.specs.rows.Tasks.{TaskGives}
 use Rattle.shared_world.specs.rows.Units.{UnitGives}
 use Rattle.shared_world.specs.Shared.{claimed, Shared, unit_state}
@@ -30,11 +30,13 @@ pub record GaveUnit (old : Shared) (name : Name) (found : Given) (new : Shared) 
   pub gives : UnitGives old name unit (next_of old.setup (unit_state unit)) found new
   pub claims : ClaimsEnd (λ q. same_name q name) old new
 
--- whose claims end: the task's, and where the attempt goes those of all its tasks
-abbrev pub gone_with : Board → Given → Name → Attempt → Name → Bool
-gone_with board (given.Settled entry) task tree = piece_or_task board task tree
-gone_with board (given.Aborted unit name version) task tree = piece_or_task board task tree
-gone_with board found task tree = λ q. same_name q task
+-- something stood under the name, and is gone
+abbrev pub is_gone : Board → Board → Name → Bool
+is_gone old new q = is_some (piece_at old q) && not (is_some (piece_at new q))
+
+-- whose claims end: the task's, and those of the pieces that are gone
+abbrev pub gone_with : Board → Board → Name → Name → Bool
+gone_with old new task q = same_name q task || is_gone old new q
 
 -- a task of the attempt of a unit
 pub record GaveTask (old : Shared) (name : Name) (found : Given) (new : Shared) : Type 0 where
@@ -47,7 +49,7 @@ pub record GaveTask (old : Shared) (name : Name) (found : Given) (new : Shared) 
   pub unit_there : unit_at old.board owner ≡ Some unit
   pub attempt : named owner old.attempts ≡ Some tree
   pub gives : TaskGives old owner unit name tree (machine_of tree name) found new
-  pub claims : ClaimsEnd (gone_with old.board found name tree) old new
+  pub claims : ClaimsEnd (gone_with old.board new.board name) old new
 
 -- What the world answers and is afterwards, for a result.
 pub data Gave (old : Shared) (result : Returned) (found : Given) (new : Shared) : Type 0 where

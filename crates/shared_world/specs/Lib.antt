@@ -1,4 +1,5 @@
 pub mod Gave
+pub mod Later
 pub mod Laws
 pub mod Opening
 pub mod Returned

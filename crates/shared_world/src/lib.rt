@@ -6,4 +6,4 @@ mod given;
 mod laws;
 
 pub use given::Given;
-pub use laws::{gave_keeps, opening_stands};
+pub use laws::{gave_grows, gave_keeps, opening_stands};

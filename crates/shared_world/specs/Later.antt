@@ -1,0 +1,10 @@
+-- What is kept later on.
+use Rattle.std.specs.Prelude.{◌≡◌, ◌++◌, List}
+use Rattle.serial_model.specs.declared.entry.Entry.{Entry}
+use Rattle.shared_world.specs.Shared.{Shared}
+
+-- the same is run, and the history goes on from where it was
+pub record IsLater (old new : Shared) : Type 0 where
+  pub setup : new.setup ≡ old.setup
+  pub more : List Entry
+  pub history : new.history ≡ old.history ++ more
