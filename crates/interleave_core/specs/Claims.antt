@@ -1,10 +1,10 @@
 -- Claims that are given out, and claims that end.
-use Rattle.std.specs.Prelude.{◌≡◌, Option, None, Some}
+use Rattle.std.specs.Prelude.{◌≡◌, true, Option, None, Some}
 use Rattle.eval_step.specs.Evaluation.{Evaluation}
 use Rattle.shared_world.specs.Gave.{IsUnclaimed}
 use Rattle.shared_world.specs.Returned.{IsLive, IsSameMachine, Returned}
 use Rattle.shared_world.specs.Shared.{Shared, claimed, kept_machine, kept_work, ready}
-use Rattle.unit_table.specs.Board.{IsLent, NoneAgain, SamePieces, marks_ready, piece_at}
+use Rattle.unit_table.specs.Board.{IsLent, NoneAgain, SamePieces}
 use Rattle.unit_table.specs.declared.mark.Work.{Work}
 use Rattle.value_core.specs.declared.ticket.Ticket.{Ticket}
 use Rattle.value_core.specs.Named.{Name}
@@ -26,11 +26,11 @@ pub record IsClaimOn (name : Name) (old : Shared) (lent : Lent) (new : Shared) :
   pub machine : lent.machine ≡ kept_machine old name
   pub claim : IsClaimedBy name lent.ticket old new
 
--- The claim of that ticket is out no more. Its piece is ready where its mark says so, and every other one where it was. No
--- ticket that was given out will be given out again.
+-- The claim of that ticket is out no more. Its piece is ready again, and every other one where it was. No ticket that was given
+-- out will be given out again.
 pub record IsAbandoned (ticket : Ticket) (old new : Shared) : Type 0 where
   pub unclaimed : IsUnclaimed ticket old new
-  pub again : (name : Name) → claimed old ticket ≡ Some name → ready new name ≡ marks_ready (piece_at old.board name)
+  pub again : (name : Name) → claimed old ticket ≡ Some name → ready new name ≡ true
   pub others : (name : Name) → (claimed old ticket ≡ Some name → ⊥) → ready new name ≡ ready old name
   pub later : NoneAgain old.board new.board
 

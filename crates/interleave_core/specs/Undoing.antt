@@ -4,6 +4,7 @@ use Rattle.std.specs.declared.alloc.AllocError.{AllocError}
 use Rattle.interleave_core.specs.Kept.{IsSameBut}
 use Rattle.interleave_core.specs.Trying.{TasksGone}
 use Rattle.shared_world.specs.declared.given.Given.{Given}
+use Rattle.shared_world.specs.declared.given.Given.TheVariants as given
 use Rattle.shared_world.specs.rows.Attempts.{Aborts, IsWithout}
 use Rattle.shared_world.specs.rows.Pieces.{ClaimsEnd, piece_or_task}
 use Rattle.shared_world.specs.Shared.{Shared}
@@ -28,6 +29,10 @@ pub record IsUndone (owner : Name) (attempts : Named Attempt) (board : Board) (l
 pub record HasAborted (old : Shared) (owner ref : Name) (version : ℕ) (new : Shared) (found : Given) : Type 0 where
   pub row : (x : Unit) (tree : Attempt) → unit_at old.board owner ≡ Some x → named owner old.attempts ≡ Some tree → Aborts old owner x tree ref version found new
   pub claims : (tree : Attempt) → named owner old.attempts ≡ Some tree → ClaimsEnd (piece_or_task old.board owner tree) old new
+
+-- it is undone, for whatever ref and version
+abbrev pub HasUndone : Shared → Name → Shared → Type 0
+HasUndone old owner new = (ref : Name) (version : ℕ) → HasAborted old owner ref version new (given.Aborted owner ref version)
 
 abbrev pub AbortsOr : Shared → Name → Name → ℕ → Shared → Result Given AllocError → Type 0
 AbortsOr old owner ref version new (Ok found) = HasAborted old owner ref version new found

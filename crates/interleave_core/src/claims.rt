@@ -37,6 +37,7 @@ impl Kept {
         ensures { IsAbandoned ticket (shared_of self.old) (shared_of self.new) }
     {
         self.units.claims_are_tied();
+        self.units.lent_are_ready();
         self.units.take_back(ticket);
     }
 
@@ -117,7 +118,11 @@ impl Kept {
     }
 
     /// An equal machine of the piece, where it has one.
-    fn copy_machine(&self, alloc: Global, name: &Name) -> Result<Option<Machine>, AllocError>
+    pub(crate) fn copy_machine(
+        &self,
+        alloc: Global,
+        name: &Name,
+    ) -> Result<Option<Machine>, AllocError>
         ensures { IfOk result (λ machine. machine ≡ kept_machine (shared_of self.now) name.now) }
     {
         match self.machine_of(name) {
@@ -148,7 +153,7 @@ impl Kept {
 }
 
 /// What can be done with a piece of that mark, where something can.
-fn work_in(mark: &Mark) -> Option<Work>
+pub(crate) fn work_in(mark: &Mark) -> Option<Work>
     ensures { result ≡ work_in mark.now }
 {
     match mark {

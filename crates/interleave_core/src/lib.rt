@@ -2,8 +2,20 @@
 #![tactic(auto)]
 
 mod attempts;
+mod claiming;
 mod claims;
+mod commits;
+mod deciding;
+mod error;
+mod finishing;
+mod giving;
 mod kept;
+mod opening;
 mod snapshots;
+mod tasks;
 mod undoing;
 mod units;
+mod world;
+
+pub use error::{ClaimNo, NamedNo, StepNo};
+pub use world::World;

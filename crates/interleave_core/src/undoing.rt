@@ -1,8 +1,8 @@
 // How an attempt goes.
-ghost use Rattle.std.specs.Prelude.{◌≡◌, ◌≤◌, [], None, length};
+ghost use Rattle.std.specs.Prelude.{◌≡◌, ◌≤◌, [], None, OnErr, OnOk, length};
 ghost use Rattle.std.specs.Vec.{vec_capacity};
-ghost use Rattle.interleave_core.specs.Kept.{shared_of};
-ghost use Rattle.interleave_core.specs.Undoing.{AbortsOr, HasAttempt, IsUndone};
+ghost use Rattle.interleave_core.specs.Kept.{shared_of, IsSameBut};
+ghost use Rattle.interleave_core.specs.Undoing.{AbortsOr, HasAttempt, HasUndone, IsUndone};
 ghost use Rattle.shared_world.specs.rows.Attempts.{ArePrunedFor};
 ghost use Rattle.shared_world.specs.Stands.{Stands};
 
@@ -32,15 +32,27 @@ impl Kept {
         ensures { AbortsOr (shared_of self.old) owner.now name version (shared_of self.new) result }
     {
         let unit = owner.copy(alloc)?;
-        let live = room_for_snapshots(alloc, &self.attempts)?;
-        drop_attempt(&mut self.attempts, &mut self.units, owner);
-        self.units.mark(owner, Mark::Ready(Work::Settle));
-        prune(&self.attempts, &mut self.store, live);
+        self.undo(alloc, owner)?;
         Ok(Given::Aborted {
             unit,
             name,
             version,
         })
+    }
+
+    /// The attempt of the unit is undone, and the unit can begin a new one.
+    pub(crate) fn undo(&mut self, alloc: Global, owner: &Name) -> Result<(), AllocError>
+        requires stands { Stands (shared_of self.old) }
+        requires going { self.old.end ≡ None }
+        requires attempt { HasAttempt (shared_of self.old) owner.now }
+        ensures undone { OnOk result (HasUndone (shared_of self.old) owner.now (shared_of self.new)) }
+        ensures same { OnErr result (IsSameBut (shared_of self.old) (shared_of self.new)) }
+    {
+        let live = room_for_snapshots(alloc, &self.attempts)?;
+        drop_attempt(&mut self.attempts, &mut self.units, owner);
+        self.units.mark(owner, Mark::Ready(Work::Settle));
+        prune(&self.attempts, &mut self.store, live);
+        Ok(())
     }
 }
 

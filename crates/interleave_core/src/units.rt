@@ -187,22 +187,12 @@ impl Kept {
         requires asks { IsAsking moved }
         ensures { Comes (shared_of self.old) name.now (halts.Ask (requests.Join future) at) (shared_of self.new) result }
     {
-        match self.value_of(&future) {
+        match value_of(&self.units, &future) {
             Some(value) => {
                 let value = value.copy(alloc)?;
                 self.reply(alloc, name, moved, value)
             }
             None => self.wait(alloc, name, moved, future),
-        }
-    }
-
-    /// The value of the unit, where it is finished.
-    pub(crate) fn value_of(&self, name: &Name) -> Option<&Value>
-        ensures { option_copied result ≡ finished_at self.now.units name.now }
-    {
-        match self.units.unit(name) {
-            Some(unit) => value_in(&unit.mark),
-            None => None,
         }
     }
 
@@ -392,6 +382,16 @@ fn add_plain(units: &mut Units, alloc: Global, name: Name, machine: Machine)
     match units.add_unit(alloc, name, UnitKind::Plain, machine) {
         Ok(()) => {}
         Err(_) => unreachable!(),
+    }
+}
+
+/// The value of the unit, where it is finished.
+pub(crate) fn value_of<'a>(units: &'a Units, name: &Name) -> Option<&'a Value>
+    ensures { option_copied result ≡ finished_at units.now name.now }
+{
+    match units.unit(name) {
+        Some(unit) => value_in(&unit.mark),
+        None => None,
     }
 }
 

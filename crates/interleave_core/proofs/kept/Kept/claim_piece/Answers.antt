@@ -1,5 +1,5 @@
 use Rattle.std.proofs.Common.{subst, sym}
-use Rattle.interleave_core.proofs.Claiming.{kept-is-of, ready-goes}
+use Rattle.interleave_core.proofs.Lending.{kept-is-of, ready-goes}
 use Rattle.interleave_core.proofs.kept.Kept.claim_piece.Goals as goal
 use Rattle.interleave_core.specs.Kept.{shared_of}
 use Rattle.world_claim.specs.Lent.{IsMachineOf}

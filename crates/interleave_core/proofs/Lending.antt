@@ -3,7 +3,7 @@ use Rattle.std.proofs.Common.{◌≡◌, ◌∙◌, Bool, true, false, cond, ref
 use Rattle.std.specs.Option.{option_and_then}
 use Rattle.std.specs.Prelude.{IfNone, IfSome, None, Option, Some, ◌&&◌, if◌then◌else◌}
 use Rattle.core_syntax.specs.Table.{Table}
-use Rattle.interleave_core.specs.Claims.{IsAbandoned, IsClaimOn}
+use Rattle.interleave_core.specs.Claims.{IsAbandoned}
 use Rattle.piece_table.specs.Table.{is_free}
 use Rattle.serial_model.specs.Standing.{Start}
 use Rattle.shared_world.proofs.Standing.{same-states}
@@ -15,14 +15,14 @@ use Rattle.task_fork_join.specs.declared.task.Stage.{Stage}
 use Rattle.task_fork_join.specs.declared.task.Stage.TheVariants as stage
 use Rattle.task_fork_join.specs.declared.task.Task.{Task}
 use Rattle.task_fork_join.specs.Running.{HasMachine}
-use Rattle.unit_table.specs.Board.{AreTied, Board, IsUnlent, SameClaims, SamePieces, but_for, is_ready, lent_at, lent_to, marks_ready, piece_at}
+use Rattle.unit_table.specs.Board.{AreTied, Board, IsUnlent, LentAreReady, SameClaims, SamePieces, but_for, is_ready, lent_at, lent_to, marks_ready, piece_at}
 use Rattle.unit_table.specs.declared.piece.Piece.{Piece}
 use Rattle.unit_table.specs.declared.piece.Piece.TheVariants as piece
 use Rattle.unit_table.specs.Piece.{unit_in}
 use Rattle.value_core.proofs.NamedLaws.{same_name-equal, same_name-itself}
 use Rattle.value_core.specs.declared.ticket.Ticket.{Ticket}
 use Rattle.value_core.specs.Named.{Name, named, same_name}
-use Rattle.world_claim.specs.Lent.{IsMachineOf, Lent}
+use Rattle.world_claim.specs.Lent.{IsMachineOf}
 
 -- ---- what is kept of a piece
 -- the machine of a task is one of the program
@@ -65,10 +65,6 @@ some-same : (x y : Name) → Some x ≡ Some y → x ≡ y
 some-same x y e = cc
 
 -- ---- what is ready
-and-true : (a : Bool) → (a && true) ≡ a
-and-true true = refl
-and-true false = refl
-
 and-left : (a b : Bool) → (a && b) ≡ true → a ≡ true
 and-left true b is = refl
 and-left false b is = is
@@ -82,16 +78,7 @@ ready-goes s name is = and-left (is_going s.end) (is_ready s.board name) is
 pub pieces-stand : (old new : Shared) → Stands old → SamePieces old.board new.board → new ≡ record old { board = new.board } → Stands new
 pieces-stand old new st same rest = subst Stands (sym rest) (same-states old st new.board (same-pieces old.board new.board same) (machines-same (IsMachine old.setup) old.board new.board same st.machines))
 
--- a claim keeps what is kept standing
-pub claim-stands : (name : Name) (old new : Shared) (lent : Lent) → Stands old → IsClaimOn name old lent new → Stands new
-claim-stands name old new lent st is = pieces-stand old new st is.claim.pieces is.claim.rest
-
--- and so does one that ends
-pub abandoned-stands : (ticket : Ticket) (old new : Shared) → Stands old → IsAbandoned ticket old new → Stands new
-abandoned-stands ticket old new st is = pieces-stand old new st is.unclaimed.pieces is.unclaimed.rest
-
--- ---- claims
--- a claim that ends, where it was out
+-- ---- claims that end
 module _ (old : Shared) (ticket : Ticket) (b : Board) (same : SamePieces old.board b) where
   -- a piece that is lent as it was is ready where it was
   same-ready : (name : Name) → lent_at b name ≡ lent_at old.board name → is_ready b name ≡ is_ready old.board name
@@ -116,7 +103,7 @@ module _ (old : Shared) (ticket : Ticket) (b : Board) (same : SamePieces old.boa
       not-out : claimed old ticket ≡ None
       not-out = none-out (is_going old.end)
 
-  module _ (name : Name) (there : lent_to old.board ticket ≡ Some name) (tied : AreTied old.board) (ends : IsUnlent name old.board b) where
+  module _ (name : Name) (there : lent_to old.board ticket ≡ Some name) (tied : AreTied old.board) (can : LentAreReady old.board) (ends : IsUnlent name old.board b) where
     -- no other claim lends that piece
     apart : (other : Ticket) → (other ≡ ticket → ⊥) → (q : Name) → lent_to old.board other ≡ Some q → same_name q name ≡ false
     apart other ne q is = on (same_name q name) refl
@@ -151,19 +138,19 @@ module _ (old : Shared) (ticket : Ticket) (b : Board) (same : SamePieces old.boa
         nothing true found none = none
         nothing false found none = refl
 
-        again : (q : Name) (going : Bool) → is_going old.end ≡ going → (if going then lent_to old.board ticket else None) ≡ Some q → (going && is_ready b q) ≡ marks_ready (piece_at old.board q)
+        again : (q : Name) (going : Bool) → is_going old.end ≡ going → (if going then lent_to old.board ticket else None) ≡ Some q → (going && is_ready b q) ≡ true
         again q true e out =
             let is : name ≡ q = some-same name q (sym there ∙ out) in
-            ap₂ (λ p claim. marks_ready p && is_free claim) (same q) (subst (λ n. lent_at b n ≡ None) is ends.here) ∙ and-true (marks_ready (piece_at old.board q))
+            ap₂ (λ p claim. marks_ready p && is_free claim) (same q) (subst (λ n. lent_at b n ≡ None) is ends.here) ∙ ap (λ c. c && true) (can ticket q out)
         again q false e out = cc
 
         others : (q : Name) → (claimed old ticket ≡ Some q → ⊥) → (going : Bool) → is_going old.end ≡ going → (going && is_ready b q) ≡ (going && is_ready old.board q)
         others q apart_so true e = same-ready q (ends.others q (λ is. apart_so (ap (λ g. if g then lent_to old.board ticket else None) e ∙ there ∙ ap Some (sym is))))
         others q apart_so false e = refl
 
-  pub abandoned : AreTied old.board → IfSome (lent_to old.board ticket) (λ name. IsUnlent name old.board b) → IfNone (lent_to old.board ticket) (SameClaims old.board b) → IsAbandoned ticket old (record old { board = b })
-  abandoned tied ends claims = on (lent_to old.board ticket) refl ends claims
+  pub abandoned : AreTied old.board → LentAreReady old.board → IfSome (lent_to old.board ticket) (λ name. IsUnlent name old.board b) → IfNone (lent_to old.board ticket) (SameClaims old.board b) → IsAbandoned ticket old (record old { board = b })
+  abandoned tied can ends claims = on (lent_to old.board ticket) refl ends claims
     where
       on : (found : Option Name) → lent_to old.board ticket ≡ found → IfSome found (λ name. IsUnlent name old.board b) → IfNone found (SameClaims old.board b) → IsAbandoned ticket old (record old { board = b })
       on None is ends claims = stayed is claims
-      on (Some name) is ends claims = ended name is tied ends
+      on (Some name) is ends claims = ended name is tied can ends

@@ -1,0 +1,108 @@
+-- What follows what is the same but for room, of tasks.
+use Rattle.std.proofs.Common.{◌≡◌, ◌∙◌, Bool, true, false, cond, refl, sym, ap, subst}
+use Rattle.std.specs.Option.{option_and_then, option_map}
+use Rattle.std.specs.Prelude.{None, Option, Some, is_some, not, ◌&&◌, ◌||◌}
+use Rattle.ref_store.specs.declared.version.Version.{Version}
+use Rattle.ref_store.specs.Store.{versions_of}
+use Rattle.ref_store.specs.Version.{newest}
+use Rattle.shared_world.specs.declared.given.Given.{Given}
+use Rattle.shared_world.specs.Gave.{gone_with}
+use Rattle.shared_world.specs.rows.Attempts.{Aborts, AttemptGoes, Commits}
+use Rattle.shared_world.specs.rows.Pieces.{ClaimsEnd, IsSet, but_gone, task_gone}
+use Rattle.shared_world.specs.rows.Tasks.{AfterStep, Conflicts, EndGives, Forked, IsMarkedTask, Missing, RootGives, StepGives, conflicts, valid}
+use Rattle.shared_world.specs.Shared.{Shared, claimed}
+use Rattle.task_fork_join.specs.Attempt.{Attempt}
+use Rattle.task_fork_join.specs.declared.stepped.Stepped.{Stepped}
+use Rattle.task_fork_join.specs.declared.stepped.Stepped.TheVariants as stepped
+use Rattle.task_fork_join.specs.declared.task_end.TaskEnd.{TaskEnd}
+use Rattle.task_fork_join.specs.declared.task_end.TaskEnd.TheVariants as end
+use Rattle.unit_table.specs.Board.{Board, SamePieces, piece_at}
+use Rattle.unit_table.specs.declared.mark.Mark.{Mark}
+use Rattle.unit_table.specs.declared.piece.Piece.{Piece}
+use Rattle.unit_table.specs.declared.unit.Unit.{Unit}
+use Rattle.unit_table.specs.Piece.{beside}
+use Rattle.value_core.specs.Named.{Name, is_among, named, same_name}
+
+module _ (base : Shared) (b : Board) (same : SamePieces base.board b) where
+  abbrev mid : Shared
+  mid = record base { board = b }
+
+  set-again : (name : Name) (p : Piece) (m : Mark) (new : Board) → IsSet name p m b new → IsSet name p m base.board new
+  set-again name p m new set = record { here = set.here; others = λ other ne. set.others other ne ∙ ap (beside name m) (same other) }
+
+  marked-again : (task : Name) (m : Mark) (new : Shared) → IsMarkedTask mid task m new → IsMarkedTask base task m new
+  marked-again task m new row = record { set = record { here = row.set.here; others = λ other ne. row.set.others other ne ∙ ap (beside task m) (same other) }; others = row.others }
+
+  forked-again : (u task child : Name) (new : Shared) → Forked mid u task child new → Forked base u task child new
+  forked-again u task child new row = record {
+    none = sym (same child) ∙ row.none;
+    board = row.board;
+    put = record { here = row.put.here; others = λ other ne. row.put.others other ne ∙ same other };
+    steps = row.steps;
+  }
+
+  goes-again : (u : Name) (y : Unit) (tree : Attempt) (new : Shared) → AttemptGoes mid u y tree new → AttemptGoes base u y tree new
+  goes-again u y tree new row = record {
+    attempts = row.attempts;
+    tasks = record { here = row.tasks.here; others = λ other ne. row.tasks.others other ne ∙ ap (λ p. cond (is_some (named other tree.tasks)) (task_gone p) p) (same other) };
+  }
+
+  aborts-again : (u : Name) (x : Unit) (tree : Attempt) (ref : Name) (version : _) (found : Given) (new : Shared) → Aborts mid u x tree ref version found new → Aborts base u x tree ref version found new
+  aborts-again u x tree ref version found new row = record {
+    found_is = row.found_is;
+    unit = row.unit;
+    stands = row.stands;
+    goes = goes-again u row.unit tree new row.goes;
+    versions = row.versions;
+    others = row.others;
+  }
+
+  commits-again : (u : Name) (x : Unit) (tree : Attempt) (v : _) (found : Given) (new : Shared) → Commits mid u x tree v found new → Commits base u x tree v found new
+  commits-again u x tree v found new row = record {
+    found_is = row.found_is;
+    log = row.log;
+    done = row.done;
+    unit = row.unit;
+    stands = row.stands;
+    goes = goes-again u row.unit tree new row.goes;
+    versions = row.versions;
+    others = row.others;
+  }
+
+  pub root-again : (u : Name) (x : Unit) (tree : Attempt) (ended : TaskEnd) (found : Given) (new : Shared) → RootGives mid u x tree ended found new → RootGives base u x tree ended found new
+  root-again u x tree ended found new (valid all row) = valid all (by ended row)
+    where
+      by : (e : TaskEnd) → EndGives mid u x tree e found new → EndGives base u x tree e found new
+      by (end.Value v) r = commits-again u x tree v found new r
+      by (end.Fault code at) r = record { found_is = r.found_is; pieces = λ q. r.pieces q ∙ same q; others = r.others }
+      by end.Spent r = record { found_is = r.found_is; pieces = λ q. r.pieces q ∙ same q; others = r.others }
+  root-again u x tree ended found new (conflicts row) = conflicts (record {
+    conflict = row.conflict;
+    first = row.first;
+    ref = row.ref;
+    ref_is = row.ref_is;
+    aborts = aborts-again u x tree row.ref row.conflict.version found new row.aborts;
+  })
+
+  step-again : (u : Name) (x : Unit) (task : Name) (tree : Attempt) (went : Stepped) (found : Given) (new : Shared) → StepGives mid u x task tree went found new → StepGives base u x task tree went found new
+  step-again u x task tree stepped.Now found new row = (row.0, marked-again task _ new row.1)
+  step-again u x task tree (stepped.Forked child) found new row = (row.0, forked-again u task child new row.1)
+  step-again u x task tree (stepped.WaitJoin future) found new row = (row.0, marked-again task _ new row.1)
+  step-again u x task tree (stepped.NotInSnapshot ref) found new row = on (newest (versions_of base.versions ref)) row
+    where
+      on : (v : Option Version) → Missing mid u x tree ref v found new → Missing base u x tree ref v found new
+      on None r = r
+      on (Some version) r = aborts-again u x tree ref version.number found new r
+  step-again u x task tree stepped.Finished found new row = (row.0, marked-again task _ new row.1)
+
+  pub after-again : (u : Name) (x : Unit) (task : Name) (tree : Attempt) (went : Stepped) (ended : Option TaskEnd) (found : Given) (new : Shared) → AfterStep mid u x task tree went ended found new → AfterStep base u x task tree went ended found new
+  after-again u x task tree went None found new row = step-again u x task tree went found new row
+  after-again u x task tree went (Some e) found new row = root-again u x tree e found new row
+
+-- the claims that end
+pub gone-again : (old mid new : Shared) (task : Name) → SamePieces old.board mid.board → ((t : _) → claimed mid t ≡ claimed old t) → ClaimsEnd (gone_with mid.board new.board task) mid new → ClaimsEnd (gone_with old.board new.board task) old new
+gone-again old mid new task same claims ends going ticket = ends going ticket ∙ ap (but_gone (gone_with mid.board new.board task)) (claims ticket) ∙ on (claimed old ticket)
+  where
+    on : (found : Option Name) → but_gone (gone_with mid.board new.board task) found ≡ but_gone (gone_with old.board new.board task) found
+    on None = refl
+    on (Some q) = ap (λ p. cond (same_name q task || (is_some p && not (is_some (piece_at new.board q)))) None (Some q)) (same q)

@@ -1,0 +1,79 @@
+-- Worlds that begin, and that stand.
+use Rattle.std.proofs.Common.{◌≡◌, refl, sym, subst}
+use Rattle.std.specs.Prelude.{Err, IfOk, Ok, OnErr, Result}
+use Rattle.std.specs.declared.alloc.AllocError.{AllocError}
+use Rattle.core_syntax.specs.Table.{Table}
+use Rattle.core_syntax.specs.WellFormed.{IsWellFormed}
+use Rattle.interleave_core.proofs.Lending.{pieces-stand}
+use Rattle.interleave_core.specs.Back.{GivesBack}
+use Rattle.interleave_core.specs.Claims.{IsAbandoned, IsClaimOn}
+use Rattle.interleave_core.specs.Kept.{IsSameBut}
+use Rattle.interleave_core.specs.Standing.{IsStanding}
+use Rattle.serial_model.specs.Actors.{IsWithoutActors}
+use Rattle.serial_model.specs.declared.end.End.{End}
+use Rattle.serial_model.specs.declared.end.End.TheVariants.{Done}
+use Rattle.serial_model.specs.State.{Setup}
+use Rattle.shared_world.proofs.Kept.{gave-keeps}
+use Rattle.shared_world.proofs.Later.{gave-later}
+use Rattle.shared_world.proofs.Opens.{opening-stands}
+use Rattle.shared_world.specs.declared.given.Given.{Given}
+use Rattle.shared_world.specs.Gave.{Gave}
+use Rattle.shared_world.specs.Later.{IsLater}
+use Rattle.shared_world.specs.Opening.{IsOpening}
+use Rattle.shared_world.specs.Returned.{Returned}
+use Rattle.shared_world.specs.Shared.{Shared}
+use Rattle.shared_world.specs.Stands.{Stands}
+use Rattle.unit_table.specs.Board.{SamePieces}
+use Rattle.value_core.specs.declared.ticket.Ticket.{Ticket}
+use Rattle.value_core.specs.Named.{Name}
+use Rattle.world_claim.specs.Lent.{Lent}
+use Rattle.world_claim.specs.Run.{IsRunOf, parts_of, returned_of}
+
+-- main alone stands
+pub opening-standing : (setup : Setup) (s : Shared) → IsWellFormed setup.program → IsWithoutActors setup.program → IsOpening setup s → IsStanding s Done
+opening-standing setup s formed covered is = record {
+  stands = opening-stands setup s formed is;
+  covered = subst (λ (t : Shared). IsWithoutActors t.setup.program) (sym is.rest) covered;
+  done_is = refl;
+}
+
+-- where the pieces stay, and all else but claims and room, the world stands
+pub still-standing : (old new : Shared) (closing : End) → IsStanding old closing → SamePieces old.board new.board → new ≡ record old { board = new.board } → IsStanding new closing
+still-standing old new closing is same rest = record {
+  stands = pieces-stand old new is.stands same rest;
+  covered = subst (λ (t : Shared). IsWithoutActors t.setup.program) (sym rest) is.covered;
+  done_is = is.done_is;
+}
+
+pub abandoned-standing : (ticket : Ticket) (old new : Shared) (closing : End) → IsStanding old closing → IsAbandoned ticket old new → IsStanding new closing
+abandoned-standing ticket old new closing is ended = still-standing old new closing is ended.unclaimed.pieces ended.unclaimed.rest
+
+-- a claim, or the refusal of one
+pub claim-standing : {E : Type 0} (name : Lent → Name) (old new : Shared) (closing : End) (result : Result Lent E) → IsStanding old closing → IfOk result (λ lent. IsClaimOn (name lent) old lent new) → OnErr result (IsSameBut old new) → IsStanding new closing
+claim-standing name old new closing (Ok lent) is claimed same = still-standing old new closing is claimed.claim.pieces claimed.claim.rest
+claim-standing name old new closing (Err e) is claimed same = still-standing old new closing is same.pieces same.rest
+
+-- what a result comes to, or the want of memory for it
+pub given-standing : (old new : Shared) (r : Returned) (closing : End) (result : Result Given AllocError) → IsStanding old closing → GivesBack old r new result → IsStanding new closing
+given-standing old new r closing (Ok found) is gave = record {
+  stands = gave-keeps old new r found is.stands gave;
+  covered = subst (λ (t : Setup). IsWithoutActors t.program) (sym (gave-later old new r found gave).setup) is.covered;
+  done_is = is.done_is;
+}
+given-standing old new r closing (Err e) is back = record {
+  stands = back.stands;
+  covered = subst (λ (t : Shared). IsWithoutActors t.setup.program) (sym back.rest) is.covered;
+  done_is = is.done_is;
+}
+
+-- what was run on the program of the world
+pub run-here : (table : Table) (r : Returned) → r.program ≡ table → IsRunOf r → IsRunOf (returned_of table (parts_of r))
+run-here table r same is = subst (λ t. IsRunOf (record r { program = t })) same is
+
+-- the run of the same program goes on
+pub later-standing : (old new : Shared) (closing : End) → IsStanding old closing → Stands new → IsLater old new → IsStanding new closing
+later-standing old new closing is stands later = record {
+  stands = stands;
+  covered = subst (λ (t : Setup). IsWithoutActors t.program) (sym later.setup) is.covered;
+  done_is = is.done_is;
+}

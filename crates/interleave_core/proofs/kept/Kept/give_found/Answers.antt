@@ -1,0 +1,17 @@
+use Rattle.std.proofs.Common.{refl, subst}
+use Rattle.std.specs.Arc.{arc_value}
+use Rattle.interleave_core.specs.Claims.{FindsLive}
+use Rattle.interleave_core.specs.Kept.{shared_of}
+use Rattle.shared_world.specs.Gave as gave
+use Rattle.world_claim.specs.Run.{returned_of}
+use Rattle.interleave_core.proofs.kept.Kept.give_found.Goals as goal
+
+pub give_live-requires-clause-live : goal.give_live-requires-clause-live
+give_live-requires-clause-live c =
+    let parts = c.args.parts in
+    subst (λ o. FindsLive (shared_of c.args.self.now) parts.ticket parts.work parts.machine o) c.in-Some.is c.requires.found (returned_of (arc_value c.args.self.now.program) c.args.parts) (record { ticket_is = refl; work_is = refl; machine_is = refl })
+
+pub returns-in-None : goal.returns-in-None
+returns-in-None c =
+    let parts = c.args.parts in
+    gave.stale (subst (λ o. FindsLive (shared_of c.args.self.now) parts.ticket parts.work parts.machine o) c.in-None.is c.requires.found (returned_of (arc_value c.args.self.now.program) c.args.parts) (record { ticket_is = refl; work_is = refl; machine_is = refl })) refl c.leave.ensures.unclaimed

@@ -1,0 +1,71 @@
+-- Results that are given back.
+use Rattle.std.specs.Prelude.{◌≡◌, ◌<◌, Err, IsSome, None, Ok, Option, Result, Some, false, length, ⊤}
+use Rattle.std.specs.declared.alloc.AllocError.{AllocError}
+use Rattle.core_syntax.specs.Table.{Table}
+use Rattle.eval_step.specs.Evaluation.{Evaluation, IsAsk, IsAsking, IsOf, IsSame}
+use Rattle.interleave_core.specs.declared.giving.Moved.{Moved}
+use Rattle.interleave_core.specs.Deciding.{IsTrying}
+use Rattle.interleave_core.specs.Tasks.{IsTaskAt, IsWanting}
+use Rattle.serial_model.specs.declared.halt.Halt.{Halt}
+use Rattle.serial_model.specs.declared.halt.Halt.TheVariants as halts
+use Rattle.serial_model.specs.declared.request.Request.TheVariants as requests
+use Rattle.shared_world.specs.declared.given.Given.{Given}
+use Rattle.shared_world.specs.Gave.{GaveTask, GaveUnit}
+use Rattle.shared_world.specs.Returned.{halt_of}
+use Rattle.shared_world.specs.Shared.{Shared, finished_by}
+use Rattle.unit_table.specs.Board.{Board, unit_at}
+use Rattle.unit_table.specs.declared.unit.Unit.{Unit}
+use Rattle.unit_table.specs.Piece.{says_ready}
+use Rattle.value_core.specs.Named.{Name, named}
+
+-- a body that is asked for is in the table
+abbrev pub IsBodyThere : Table → Halt → Type 0
+IsBodyThere table (halts.Ask (requests.Fork body values) at) = body.index < length table.nodes
+IsBodyThere table (halts.Ask (requests.Dosync body values) at) = body.index < length table.nodes
+IsBodyThere table h = ⊤
+
+-- it evaluates the same as the machine that is kept, has the same answers, and was moved to where that one halts
+pub record IsMovedOn (table : Table) (kept : Evaluation) (m : Moved) : Type 0 where
+  pub same : IsSame kept m.machine
+  pub of : IsOf table m.machine
+  pub halts_so : m.halt ≡ halt_of table kept
+  pub asks : IsAsk m.halt → IsAsking m.machine
+
+-- a unit of that name is not finished
+abbrev pub IsOpenUnit : Board → Name → Type 0
+IsOpenUnit b name = (x : Unit) → unit_at b name ≡ Some x → finished_by x.mark ≡ None
+
+-- where it was evaluated it halted there, and asks where it halted at a request
+pub record HasHaltedAt (table : Table) (machine : Evaluation) (h : Halt) : Type 0 where
+  pub halts_so : h ≡ halt_of table machine
+  pub asks : IsAsk h → IsAsking machine
+
+abbrev pub HasHalted : Table → Option Evaluation → Option Halt → Type 0
+HasHalted table (Some machine) (Some h) = HasHaltedAt table machine h
+HasHalted table _ _ = ⊤
+
+-- a task of an attempt of that unit, on which no claim is
+pub record IsOwned (s : Shared) (task owner : Name) : Type 0 where
+  pub at : IsTaskAt s.board task
+  pub of : named task s.owners ≡ Some owner
+  pub trying : IsTrying s owner
+
+-- a unit that nothing can be done with now
+pub record IsWaitingUnit (b : Board) (owner : Name) : Type 0 where
+  pub unit : Unit
+  pub there : unit_at b owner ≡ Some unit
+  pub waits : says_ready unit.mark ≡ false
+
+-- such a task, or a unit
+abbrev pub IsOwnedOr : Shared → Name → Option Name → Type 0
+IsOwnedOr s name None = IsSome (unit_at s.board name)
+IsOwnedOr s name (Some owner) = IsOwned s name owner
+
+-- what the piece comes to
+pub data PieceGave (old : Shared) (name : Name) (found : Given) (new : Shared) : Type 0 where
+  unit : GaveUnit old name found new → PieceGave old name found new
+  task : GaveTask old name found new → PieceGave old name found new
+
+abbrev pub GivesTo : Shared → Name → Shared → Result Given AllocError → Type 0
+GivesTo old name new (Ok found) = PieceGave old name found new
+GivesTo old name new (Err e) = IsWanting old name new
