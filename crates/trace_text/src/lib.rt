@@ -14,4 +14,4 @@ mod write;
 pub use error::TraceNo;
 pub use laws::{every_text, one_trace, refused_once, text_or_refused};
 pub use read::{TRACE_LIMIT, read_trace};
-pub use write::write_trace;
+pub use write::{push_entry, push_line, write_trace};

@@ -40,7 +40,8 @@ fn push_limits(text: &mut Text, limits: Limits) -> Result<(), AllocError>
     )
 }
 
-fn push_entry(alloc: Global, text: &mut Text, entry: &Entry) -> Result<(), AllocError>
+/// Appends the line of the entry.
+pub fn push_entry(alloc: Global, text: &mut Text, entry: &Entry) -> Result<(), AllocError>
     ensures line { OnOk result (text.new ≡ text.old ++ line_of (entry_text entry.now)) }
     ensures is_entry { OnOk result (IsEntry entry.now) }
 {
@@ -115,7 +116,7 @@ fn are_in_range(numbers: &[u32])
 {}
 
 /// Appends a line of these pieces.
-fn push_line(text: &mut Text, pieces: &[&[u8]]) -> Result<(), AllocError>
+pub fn push_line(text: &mut Text, pieces: &[&[u8]]) -> Result<(), AllocError>
     ensures { OnOk result (text.new ≡ text.old ++ line_of (flat_map (λ piece. piece.now) pieces.now)) }
 {
     for piece in pieces {

@@ -1,0 +1,4 @@
+pub mod Drives
+pub mod Gives
+pub mod SoFar
+pub mod Wants

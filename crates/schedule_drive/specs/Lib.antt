@@ -1,0 +1,5 @@
+pub mod Drive
+pub mod Entries
+pub mod Laws
+pub mod Report
+pub mod UnderWay

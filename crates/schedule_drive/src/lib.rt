@@ -1,0 +1,13 @@
+//! A world that is driven by the lines of a schedule, and the report of what came of each.
+#![tactic(auto)]
+
+mod driving;
+mod kept;
+mod laws;
+mod lines;
+mod report;
+mod told;
+
+pub use driving::drive;
+pub use laws::{drive_appends, gave_appends};
+pub use told::Told;
