@@ -1,3 +1,4 @@
+pub mod Crossing
 pub mod Aborting
 pub mod Again
 pub mod Committing

@@ -4,6 +4,7 @@ pub mod Deciding
 pub mod Finishing
 pub mod Giving
 pub mod Gone
+pub mod Grown
 pub mod Kept
 pub mod Live
 pub mod Moved

@@ -9,6 +9,7 @@ mod deciding;
 mod error;
 mod finishing;
 mod giving;
+mod grows;
 mod kept;
 mod opening;
 mod snapshots;

@@ -1,0 +1,109 @@
+-- The world may be moved into a thread.
+use denote.Param.Send.{IsSend}
+use Rattle.std.proofs.MapsCrossing as maps
+use Rattle.core_syntax.proofs.program.Program.TheSendSync as program
+use Rattle.eval_step.proofs.Crossing.{machine_send}
+use Rattle.interleave_core.specs.contracts.kept.Kept as kept
+use Rattle.interleave_core.specs.contracts.world.World as world
+use Rattle.piece_table.specs.contracts.piece_table.PieceTable as table
+use Rattle.ref_store.specs.contracts.store.Store as store
+use Rattle.ref_store.specs.contracts.version.Version as version
+use Rattle.ref_store.specs.contracts.writes.Writes as writes
+use Rattle.serial_model.proofs.Crossing.{fields}
+use Rattle.serial_model.proofs.history.History.TheSendSync as history
+use Rattle.serial_model.proofs.limits.Limits.TheSendSync as limits
+use Rattle.serial_model.specs.contracts.actor_state.ActorState as actor_state
+use Rattle.serial_model.specs.contracts.effect.Effect as effect
+use Rattle.serial_model.specs.contracts.effect.What as what
+use Rattle.serial_model.specs.contracts.end.End as end
+use Rattle.slot_set.specs.contracts.slot_set.SlotSet as slots
+use Rattle.task_fork_join.specs.contracts.task.Stage as stage
+use Rattle.task_fork_join.specs.contracts.task.Task as task
+use Rattle.task_fork_join.specs.contracts.task_end.TaskEnd as task_end
+use Rattle.task_fork_join.specs.contracts.tree.Tree as tree
+use Rattle.task_log.specs.contracts.log.TaskLog as own_log
+use Rattle.txn_snapshot.specs.contracts.log.TaskLog as log
+use Rattle.txn_snapshot.specs.contracts.reads.Reads as reads
+use Rattle.unit_table.specs.contracts.mark.Mark as mark
+use Rattle.unit_table.specs.contracts.piece.Actor as actor
+use Rattle.unit_table.specs.contracts.piece.Piece as piece
+use Rattle.unit_table.specs.contracts.places.Places as places
+use Rattle.unit_table.specs.contracts.record.Record as record_row
+use Rattle.unit_table.specs.contracts.unit.Unit as unit
+use Rattle.unit_table.specs.contracts.units.Units as units
+use Rattle.value_core.proofs.Crossing.{name_send, value_send, values_send}
+use Rattle.value_core.specs.contracts.places.Places as owners
+use Rattle.value_core.specs.contracts.name.Name as name
+use Rattle.wait_lists.specs.contracts.wait_lists.WaitLists as waits
+
+mark_send : IsSend mark.the_row
+mark_send = search (name_send, value_send, fields) depth 60 fits 20000
+
+unit_send : IsSend unit.the_row
+unit_send = search (name_send, machine_send, mark_send, fields) depth 60 fits 20000
+
+actor_send : IsSend actor.the_row
+actor_send = search (values_send, mark_send, fields) depth 60 fits 20000
+
+piece_send : IsSend piece.the_row
+piece_send = search (unit_send, mark_send, actor_send, fields) depth 60 fits 20000
+
+record_send : IsSend record_row.the_row
+record_send = search (piece_send, fields) depth 60 fits 20000
+
+table_send : IsSend table.the_row
+table_send = search fields depth 60 fits 20000
+
+places_send : IsSend places.the_row
+places_send = search (name_send, record_send, table_send, maps.crosses, fields) depth 60 fits 20000
+
+units_send : IsSend units.the_row
+units_send = search (places_send, fields) depth 60 fits 20000
+
+version_send : IsSend version.the_row
+version_send = search (value_send, fields) depth 60 fits 20000
+
+store_send : IsSend store.the_row
+store_send = search (name_send, version_send, maps.crosses, fields) depth 60 fits 20000
+
+what_send : IsSend what.the_row
+what_send = search (name_send, values_send, fields) depth 60 fits 20000
+
+effect_send : IsSend effect.the_row
+effect_send = search (name_send, what_send, fields) depth 60 fits 20000
+
+own_log_send : IsSend own_log.the_row
+own_log_send = search (name_send, value_send, effect_send, maps.crosses, fields) depth 60 fits 20000
+
+writes_send : IsSend writes.the_row
+writes_send = search (name_send, value_send, fields) depth 60 fits 20000
+
+reads_send : IsSend reads.the_row
+reads_send = search (name_send, fields) depth 60 fits 20000
+
+log_send : IsSend log.the_row
+log_send = search (name_send, own_log_send, writes_send, reads_send, fields) depth 60 fits 20000
+
+task_end_send : IsSend task_end.the_row
+task_end_send = search (value_send, fields) depth 60 fits 20000
+
+stage_send : IsSend stage.the_row
+stage_send = search (machine_send, task_end_send, fields) depth 60 fits 20000
+
+task_send : IsSend task.the_row
+task_send = search (name_send, log_send, stage_send, maps.crosses, fields) depth 60 fits 20000
+
+tree_send : IsSend tree.the_row
+tree_send = search (name_send, task_send, reads_send, task_end_send, maps.crosses, fields) depth 60 fits 20000
+
+owners_send : IsSend (owners.the_row name.the_row)
+owners_send = search (name_send, maps.crosses, fields) depth 60 fits 20000
+
+end_send : IsSend end.the_row
+end_send = search (name_send, fields) depth 60 fits 20000
+
+kept_send : IsSend kept.the_row
+kept_send = search (name_send, units_send, store_send, tree_send, owners_send, end_send, program.the_send, program.the_sync, history.the_send, limits.the_send, maps.crosses, fields) depth 60 fits 20000
+
+pub world_send : IsSend world.the_row
+world_send = search (kept_send, end_send, fields) depth 60 fits 20000

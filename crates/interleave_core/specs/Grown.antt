@@ -1,0 +1,19 @@
+-- What a lock and its seats see of a world: its setup as a pair, and its history.
+use Rattle.std.specs.Prelude.{◌≡◌, List, Some}
+use Rattle.core_syntax.specs.Table.{Table}
+use Rattle.serial_model.specs.declared.end.End.{End}
+use Rattle.serial_model.specs.declared.entry.Entry.{Entry}
+use Rattle.serial_model.specs.Limits.{Budget}
+use Rattle.serial_model.specs.Replay.{IsOver, replay}
+use Rattle.serial_model.specs.State.{Setup, State}
+
+-- the setup of a program and limits
+abbrev pub setup_of : Table × Budget → Setup
+setup_of s = record { program = s.0; limits = s.1 }
+
+-- the entries replay to a state that is over
+pub record IsDone (setup : Table × Budget) (entries : List Entry) : Type 0 where
+  pub state : State
+  pub end : End
+  pub replays : replay (setup_of setup) entries ≡ Some state
+  pub over : IsOver (setup_of setup) state end

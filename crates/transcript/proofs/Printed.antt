@@ -1,0 +1,21 @@
+-- What a world has printed is what its history prints.
+use Rattle.std.proofs.Common.{◌≡◌, ◌∙◌, ℕ, List, length, refl, sym, ap, subst}
+use Rattle.std.specs.Prelude.{Some, drop}
+use Rattle.serial_model.specs.Replay.{replay}
+use Rattle.shared_world.specs.Shared.{Shared}
+use Rattle.shared_world.specs.Stands.{Stands}
+use Rattle.transcript.specs.Written.{IsBehind, IsPrinted}
+
+pub printed : (s : Shared) → Stands s → (total : ℕ) → total ≡ length s.bytes → IsPrinted (s.setup.program, s.setup.limits) s.history total
+printed s st total is = record {
+  state = st.is_world.state;
+  replays = ap (replay s.setup) (sym st.seen.history) ∙ st.is_world.replays;
+  total_is = is ∙ ap length (sym st.seen.bytes ∙ st.is_world.stands.bytes);
+}
+
+pub behind : (s : Shared) → Stands s → (written : ℕ) (rest : List ℕ) → rest ≡ drop written s.bytes → IsBehind (s.setup.program, s.setup.limits) s.history written rest
+behind s st written rest is = record {
+  state = st.is_world.state;
+  replays = ap (replay s.setup) (sym st.seen.history) ∙ st.is_world.replays;
+  rest_is = is ∙ ap (drop written) (sym st.seen.bytes ∙ st.is_world.stands.bytes);
+}

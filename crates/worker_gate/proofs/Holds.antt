@@ -1,0 +1,60 @@
+-- What a hold leaves is later than what was entered.
+use Rattle.std.proofs.Common.{◌≡◌, ◌∙◌, List, [], append-nil, refl, sym, ap, subst}
+use Rattle.std.specs.Prelude.{Some}
+use Rattle.core_syntax.specs.Table.{Table}
+use Rattle.interleave_core.specs.Back.{IsBack}
+use Rattle.interleave_core.specs.Claims.{IsAbandoned, IsClaimOn}
+use Rattle.interleave_core.specs.Grown.{IsDone}
+use Rattle.interleave_core.specs.Kept.{IsSameBut}
+use Rattle.interleave_core.specs.Over.{IsRunOver}
+use Rattle.serial_model.specs.declared.entry.Entry.{Entry}
+use Rattle.serial_model.specs.Limits.{Budget}
+use Rattle.serial_model.specs.State.{Setup}
+use Rattle.shared_world.proofs.Later.{gave-later}
+use Rattle.shared_world.specs.declared.given.Given.{Given}
+use Rattle.shared_world.specs.Gave.{Gave}
+use Rattle.shared_world.specs.Later.{IsLater as IsLaterWorld}
+use Rattle.shared_world.specs.Returned.{Returned}
+use Rattle.shared_world.specs.Shared.{Shared}
+use Rattle.value_core.specs.declared.ticket.Ticket.{Ticket}
+use Rattle.value_core.specs.Named.{Name}
+use Rattle.world_claim.specs.Lent.{Lent}
+use Rattle.world_lock.specs.Later.{IsLater}
+
+-- what the lock sees of a world
+abbrev pub setup_seen : Shared → Table × Budget
+setup_seen s = (s.setup.program, s.setup.limits)
+
+abbrev pub history_seen : Shared → List Entry
+history_seen s = s.history
+
+pub later : (old new : Shared) → IsLaterWorld old new → IsLater setup_seen history_seen old new
+later old new is = record { same_setup = ap (λ (s : Setup). (s.program, s.limits)) is.setup; grown = (is.more, sym is.history) }
+
+-- the setup and the history stay
+stays : (old new : Shared) → new.setup ≡ old.setup → new.history ≡ old.history → IsLater setup_seen history_seen old new
+stays old new setup history = record { same_setup = ap (λ (s : Setup). (s.program, s.limits)) setup; grown = ([], append-nil old.history ∙ sym history) }
+
+pub claimed-later : (old new : Shared) (name : Name) (lent : Lent) → IsClaimOn name old lent new → IsLater setup_seen history_seen old new
+claimed-later old new name lent is = stays old new (ap (λ (s : Shared). s.setup) is.claim.rest) (ap (λ (s : Shared). s.history) is.claim.rest)
+
+pub same-later : (old new : Shared) → IsSameBut old new → IsLater setup_seen history_seen old new
+same-later old new is = stays old new (ap (λ (s : Shared). s.setup) is.rest) (ap (λ (s : Shared). s.history) is.rest)
+
+pub abandoned-later : (old new : Shared) (ticket : Ticket) → IsAbandoned ticket old new → IsLater setup_seen history_seen old new
+abandoned-later old new ticket is = stays old new (ap (λ (s : Shared). s.setup) is.unclaimed.rest) (ap (λ (s : Shared). s.history) is.unclaimed.rest)
+
+pub back-later : (old new : Shared) (r : Returned) → IsBack old r new → IsLater setup_seen history_seen old new
+back-later old new r is = stays old new (ap (λ (s : Shared). s.setup) is.rest) (ap (λ (s : Shared). s.history) is.rest)
+
+pub gave-lock-later : (old new : Shared) (r : Returned) (found : Given) → Gave old r found new → IsLater setup_seen history_seen old new
+gave-lock-later old new r found gave = later old new (gave-later old new r found gave)
+
+-- where a run is over, its history says so
+pub over-done : (old new : Shared) (setup : Table × Budget) → setup_seen old ≡ setup → IsRunOver old → IsSameBut old new → IsDone setup new.history
+over-done old new setup is over same = subst (λ s. IsDone s new.history) is (subst (IsDone (setup_seen old)) (sym (ap (λ (s : Shared). s.history) same.rest)) (record {
+  state = over.1.state;
+  end = over.0;
+  replays = over.1.replays;
+  over = over.1.over;
+}))

@@ -1,0 +1,122 @@
+ghost use Rattle.std.specs.Prelude.{◌≡◌};
+ghost use mathlib.Core.List.{IsPrefix};
+ghost use Rattle.interleave_core.specs.Grown.{IsDone};
+ghost use Rattle.worker_gate.specs.declared.rounds.Went.TheVariants as went;
+ghost use Rattle.world_lock.specs.Known.{IsSeatOf};
+
+use crate::gate::Gate;
+use crate::holds::{Asked, Told, abandon_in, claim_in, give_in};
+use core_syntax::Program;
+use interleave_core::{ClaimNo, StepNo, World};
+use shared_world::Given;
+use std::alloc::Global;
+use std::sync::Wait;
+use std::thread::yield_now;
+use world_claim::Claim;
+use world_lock::{Seat, WorldLock};
+
+/// What became of a worker's round.
+#[derive(Clone, Copy, Debug, PartialEq, Eq)]
+pub(crate) enum Went {
+    /// An entry was settled.
+    Settled,
+    /// A step was done that the history does not see, or there was nothing to claim.
+    On,
+    /// The run is over.
+    Over,
+    /// Memory is wanting.
+    Memory,
+}
+
+/// A worker's seat after a round, and what became of the round.
+#[derive(Drop)]
+pub(crate) struct Round {
+    pub(crate) seat: Seat<World>,
+    pub(crate) went: Went,
+}
+
+/// A round: a claim in one hold, its evaluation outside of the lock, and its return in another hold. Where nothing is ready
+/// the thread yields.
+pub(crate) fn round<R: Wait, G: Gate>(
+    rt: &R,
+    alloc: Global,
+    lock: &WorldLock<World>,
+    seat: Seat<World>,
+    program: &Program,
+    worker: u32,
+    turn: u64,
+    gate: &G,
+) -> Round
+    requires of { IsSeatOf lock.now seat }
+    requires program { program.now ≡ lock.now.setup.0 }
+    ensures of { IsSeatOf lock.now result.seat }
+    ensures shares { result.seat.shares ≡ seat.shares }
+    ensures seen { IsPrefix seat.seen result.seat.seen }
+    ensures over { result.went ≡ went.Over → IsDone lock.now.setup result.seat.seen }
+{
+    let Asked { seat, found } = claim_in(rt, alloc, lock, seat);
+    match found {
+        Ok(claim) => take_turn(rt, alloc, lock, seat, program, claim, worker, turn, gate),
+        Err(ClaimNo::Idle) => {
+            yield_now();
+            Round {
+                seat,
+                went: Went::On,
+            }
+        }
+        Err(ClaimNo::Over) => Round {
+            seat,
+            went: Went::Over,
+        },
+        Err(ClaimNo::Memory) => Round {
+            seat,
+            went: Went::Memory,
+        },
+    }
+}
+
+/// Evaluates the claim, passes the gate, and gives the result back. A claim that finds no memory is abandoned.
+fn take_turn<R: Wait, G: Gate>(
+    rt: &R,
+    alloc: Global,
+    lock: &WorldLock<World>,
+    seat: Seat<World>,
+    program: &Program,
+    claim: Claim,
+    worker: u32,
+    turn: u64,
+    gate: &G,
+) -> Round
+    requires of { IsSeatOf lock.now seat }
+    requires program { program.now ≡ lock.now.setup.0 }
+    requires claim { claim.program ≡ lock.now.setup.0 }
+    ensures of { IsSeatOf lock.now result.seat }
+    ensures shares { result.seat.shares ≡ seat.shares }
+    ensures seen { IsPrefix seat.seen result.seat.seen }
+    ensures going { result.went ≡ went.Over → IsDone lock.now.setup result.seat.seen }
+{
+    match claim.run(alloc, program) {
+        Ok(done) => {
+            gate.pass(worker, turn);
+            told(give_in(rt, alloc, lock, seat, done))
+        }
+        Err(ticket) => Round {
+            seat: abandon_in(rt, lock, seat, ticket),
+            went: Went::Memory,
+        },
+    }
+}
+
+/// The round whose result was answered so.
+fn told(told: Told) -> Round
+    ensures seat { result.seat ≡ told.seat }
+    ensures going { result.went ≡ went.Over → ⊥ }
+{
+    let Told { seat, answer } = told;
+    let went = match answer {
+        Ok(Given::Settled(_)) => Went::Settled,
+        Ok(_) => Went::On,
+        Err(StepNo::Memory) => Went::Memory,
+    };
+    Round { seat, went }
+}
