@@ -1,0 +1,8 @@
+//! Maps by name whose copies share what they hold.
+#![tactic(auto)]
+
+mod node;
+mod putting;
+mod shared_map;
+
+pub use shared_map::SharedMap;
