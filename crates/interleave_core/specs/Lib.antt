@@ -1,17 +1,6 @@
 pub mod Back
 pub mod Claims
-pub mod Deciding
 pub mod Finishing
 pub mod Giving
-pub mod Gone
-pub mod Kept
-pub mod Live
-pub mod Moved
-pub mod Opening
 pub mod Over
-pub mod Ready
-pub mod Rows
 pub mod Standing
-pub mod Tasks
-pub mod Trying
-pub mod Undoing
