@@ -3,7 +3,6 @@ use denote.Param.Send.{IsSend}
 use Rattle.std.proofs.MapsCrossing as maps
 use Rattle.core_syntax.proofs.program.Program.TheSendSync as program
 use Rattle.eval_step.proofs.Crossing.{machine_send}
-use Rattle.interleave_core.specs.contracts.kept.Kept as kept
 use Rattle.interleave_core.specs.contracts.world.World as world
 use Rattle.piece_table.specs.contracts.piece_table.PieceTable as table
 use Rattle.ref_store.specs.contracts.store.Store as store
@@ -32,9 +31,10 @@ use Rattle.unit_table.specs.contracts.record.Record as record_row
 use Rattle.unit_table.specs.contracts.unit.Unit as unit
 use Rattle.unit_table.specs.contracts.units.Units as units
 use Rattle.value_core.proofs.Crossing.{name_send, value_send, values_send}
-use Rattle.value_core.specs.contracts.places.Places as owners
 use Rattle.value_core.specs.contracts.name.Name as name
+use Rattle.value_core.specs.contracts.places.Places as owners
 use Rattle.wait_lists.specs.contracts.wait_lists.WaitLists as waits
+use Rattle.world_steps.specs.contracts.kept.Kept as kept
 
 mark_send : IsSend mark.the_row
 mark_send = search (name_send, value_send, fields) depth 60 fits 20000

@@ -5,16 +5,16 @@ use Rattle.std.specs.declared.cmp.Ordering.TheVariants.{Equal, Greater, Less}
 use Rattle.std.specs.Option.{option_and_then, option_map}
 use Rattle.std.specs.Ordering.{is_gt}
 use Rattle.std.specs.Prelude.{IsSome, None, Option, Some, not, ◌↔◌, if◌then◌else◌}
-use Rattle.interleave_core.proofs.Aborting.{trying-unfinished}
+use Rattle.attempt_steps.proofs.Aborting.{trying-unfinished}
 use Rattle.interleave_core.proofs.Finished.{open-not-over, over-set}
 use Rattle.interleave_core.proofs.Lending.{pieces-stand}
 use Rattle.interleave_core.specs.Finishing.{AreEnding, GoesOn, IsEnded, IsFinished, IsNextOr, LentAfter, NoneOut, NoneTried, is_finished}
 use Rattle.interleave_core.specs.Giving as giving
 use Rattle.interleave_core.specs.Giving.{IsOpenUnit, PieceGave}
-use Rattle.interleave_core.specs.Kept.{IsSameBut}
+use Rattle.world_steps.specs.Kept.{IsSameBut}
 use Rattle.interleave_core.specs.Over.{IsOverWith}
-use Rattle.interleave_core.specs.Tasks.{IsWanting}
-use Rattle.interleave_core.specs.Undoing.{HasAborted, HasAttempt, HasUndone}
+use Rattle.attempt_steps.specs.Tasks.{IsWanting}
+use Rattle.attempt_steps.specs.Undoing.{HasAborted, HasAttempt, HasUndone}
 use Rattle.serial_model.specs.declared.end.End.{End}
 use Rattle.shared_world.proofs.Gone.{SeenAs, aborted, seen-as}
 use Rattle.shared_world.proofs.Kept.{task-gave, unit-gave}

@@ -4,11 +4,12 @@ use Rattle.std.specs.Option.{option_and_then, option_map}
 use Rattle.std.specs.Prelude.{◌⊎◌, ◌&&◌, None, Option, Some, if◌then◌else◌}
 use Rattle.core_syntax.specs.Table.{Table}
 use Rattle.eval_step.specs.Evaluation.{Evaluation, IsAsk, IsAsking}
-use Rattle.interleave_core.specs.Back.{IsBack}
+use Rattle.interleave_core.specs.Back.{HasGiven, IsBack}
+use Rattle.interleave_core.proofs.Stale.{not-stale}
 use Rattle.interleave_core.specs.Claims.{IsAbandoned}
 use Rattle.interleave_core.specs.Giving.{HasHalted, IsOpenUnit, PieceGave}
-use Rattle.interleave_core.specs.Giving as gives
-use Rattle.interleave_core.specs.Tasks.{IsWanting}
+use Rattle.interleave_core.specs.Giving as piece_gave
+use Rattle.attempt_steps.specs.Tasks.{IsWanting}
 use Rattle.serial_model.specs.declared.halt.Halt.{Halt}
 use Rattle.shared_world.proofs.Kept.{unclaimed-keeps}
 use Rattle.shared_world.proofs.Live.{going, unfinished}
@@ -139,9 +140,12 @@ back-plain old new r st left = record {
 }
 
 -- what the piece came to
-pub live-gave : (old new : Shared) (r : Returned) (name : Name) (found : Given) → IsLive old r name → PieceGave old name found new → Gave old r found new
-live-gave old new r name found live (gives.unit g) = gave.unit name live g
-live-gave old new r name found live (gives.task g) = gave.task name live g
+pub live-gave : (old new : Shared) (r : Returned) (name : Name) (found : Given) → IsLive old r name → PieceGave old name found new → HasGiven old r new found
+live-gave old new r name found live gives = record { gave = on gives; stale = λ is. absurd (not-stale old new name found gives is) }
+  where
+    on : PieceGave old name found new → Gave old r found new
+    on (piece_gave.unit g) = gave.unit name live g
+    on (piece_gave.task g) = gave.task name live g
 
 -- a unit that is claimed is not finished
 pub live-unfinished : (old : Shared) (r : Returned) (name : Name) → IsLive old r name → IsOpenUnit old.board name

@@ -2,9 +2,9 @@
 use Rattle.std.proofs.Common.{◌≡◌, ◌∙◌, true, false, refl, sym, ap}
 use Rattle.std.specs.Option.{IsSome}
 use Rattle.std.specs.Prelude.{None, Option, Some}
-use Rattle.interleave_core.specs.Deciding.{IsTrying}
+use Rattle.attempt_steps.specs.Deciding.{IsTrying}
 use Rattle.interleave_core.specs.Giving.{IsWaitingUnit}
-use Rattle.interleave_core.specs.Gone.{IsFree}
+use Rattle.attempt_steps.specs.Gone.{IsFree}
 use Rattle.shared_world.proofs.Live.{unit-piece}
 use Rattle.shared_world.specs.Shared.{Shared}
 use Rattle.task_fork_join.specs.Attempt.{Attempt}

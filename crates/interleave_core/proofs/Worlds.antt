@@ -7,7 +7,7 @@ use Rattle.core_syntax.specs.WellFormed.{IsWellFormed}
 use Rattle.interleave_core.proofs.Lending.{pieces-stand}
 use Rattle.interleave_core.specs.Back.{GivesBack}
 use Rattle.interleave_core.specs.Claims.{IsAbandoned, IsClaimOn}
-use Rattle.interleave_core.specs.Kept.{IsSameBut}
+use Rattle.world_steps.specs.Kept.{IsSameBut}
 use Rattle.interleave_core.specs.Standing.{IsStanding}
 use Rattle.serial_model.specs.Actors.{IsWithoutActors}
 use Rattle.serial_model.specs.declared.end.End.{End}
@@ -55,9 +55,9 @@ claim-standing name old new closing (Err e) is claimed same = still-standing old
 
 -- what a result comes to, or the want of memory for it
 pub given-standing : (old new : Shared) (r : Returned) (closing : End) (result : Result Given AllocError) → IsStanding old closing → GivesBack old r new result → IsStanding new closing
-given-standing old new r closing (Ok found) is gave = record {
-  stands = gave-keeps old new r found is.stands gave;
-  covered = subst (λ (t : Setup). IsWithoutActors t.program) (sym (gave-later old new r found gave).setup) is.covered;
+given-standing old new r closing (Ok found) is given_so = record {
+  stands = gave-keeps old new r found is.stands given_so.gave;
+  covered = subst (λ (t : Setup). IsWithoutActors t.program) (sym (gave-later old new r found given_so.gave).setup) is.covered;
   done_is = is.done_is;
 }
 given-standing old new r closing (Err e) is back = record {

@@ -1,7 +1,9 @@
 -- A result that is given back for which memory was wanting.
 use Rattle.std.specs.Prelude.{◌≡◌, Err, None, Ok, Result, true}
 use Rattle.std.specs.declared.alloc.AllocError.{AllocError}
+use Rattle.interleave_core.specs.Claims.{IsStale}
 use Rattle.shared_world.specs.declared.given.Given.{Given}
+use Rattle.shared_world.specs.declared.given.Given.TheVariants as given
 use Rattle.shared_world.specs.Gave.{Gave}
 use Rattle.shared_world.specs.Returned.{IsLive, Returned}
 use Rattle.shared_world.specs.Shared.{claimed, ready, Shared}
@@ -20,7 +22,12 @@ pub record IsBack (old : Shared) (result : Returned) (new : Shared) : Type 0 whe
   pub pieces : (name : Name) → (IsLive old result name → ⊥) → piece_at new.board name ≡ piece_at old.board name
   pub rest : new ≡ record old { attempts = new.attempts; board = new.board }
 
--- what a result comes to; or for want of memory the claim ends
+-- what a result comes to
+pub record HasGiven (old : Shared) (result : Returned) (new : Shared) (found : Given) : Type 0 where
+  pub gave : Gave old result found new
+  pub stale : found ≡ given.Stale → IsStale old result new
+
+-- or for want of memory the claim ends
 abbrev pub GivesBack : Shared → Returned → Shared → Result Given AllocError → Type 0
-GivesBack old result new (Ok found) = Gave old result found new
+GivesBack old result new (Ok found) = HasGiven old result new found
 GivesBack old result new (Err e) = IsBack old result new

@@ -34,6 +34,11 @@ pub record IsAbandoned (ticket : Ticket) (old new : Shared) : Type 0 where
   pub others : (name : Name) → (claimed old ticket ≡ Some name → ⊥) → ready new name ≡ ready old name
   pub later : NoneAgain old.board new.board
 
+-- The result is live under no name. Its claim is out no more, where it was, its piece is ready again, and nothing else changes.
+pub record IsStale (old : Shared) (r : Returned) (new : Shared) : Type 0 where
+  pub none : (name : Name) → IsLive old r name → ⊥
+  pub left : IsAbandoned r.ticket old new
+
 -- the work and the machine are those that are kept of the piece
 pub record IsKeptSo (s : Shared) (name : Name) (work : Work) (machine : Option Evaluation) : Type 0 where
   pub work_is : kept_work s name ≡ Some work

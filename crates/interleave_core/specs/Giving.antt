@@ -1,14 +1,11 @@
 -- Results that are given back.
-use Rattle.std.specs.Prelude.{◌≡◌, ◌<◌, Err, IsSome, None, Ok, Option, Result, Some, false, length, ⊤}
+use Rattle.std.specs.Prelude.{◌≡◌, Err, IsSome, None, Ok, Option, Result, Some, false, ⊤}
 use Rattle.std.specs.declared.alloc.AllocError.{AllocError}
 use Rattle.core_syntax.specs.Table.{Table}
 use Rattle.eval_step.specs.Evaluation.{Evaluation, IsAsk, IsAsking, IsOf, IsSame}
 use Rattle.interleave_core.specs.declared.giving.Moved.{Moved}
-use Rattle.interleave_core.specs.Deciding.{IsTrying}
-use Rattle.interleave_core.specs.Tasks.{IsTaskAt, IsWanting}
+use Rattle.attempt_steps.specs.Tasks.{IsOwned, IsWanting}
 use Rattle.serial_model.specs.declared.halt.Halt.{Halt}
-use Rattle.serial_model.specs.declared.halt.Halt.TheVariants as halts
-use Rattle.serial_model.specs.declared.request.Request.TheVariants as requests
 use Rattle.shared_world.specs.declared.given.Given.{Given}
 use Rattle.shared_world.specs.Gave.{GaveTask, GaveUnit}
 use Rattle.shared_world.specs.Returned.{halt_of}
@@ -16,13 +13,7 @@ use Rattle.shared_world.specs.Shared.{Shared, finished_by}
 use Rattle.unit_table.specs.Board.{Board, unit_at}
 use Rattle.unit_table.specs.declared.unit.Unit.{Unit}
 use Rattle.unit_table.specs.Piece.{says_ready}
-use Rattle.value_core.specs.Named.{Name, named}
-
--- a body that is asked for is in the table
-abbrev pub IsBodyThere : Table → Halt → Type 0
-IsBodyThere table (halts.Ask (requests.Fork body values) at) = body.index < length table.nodes
-IsBodyThere table (halts.Ask (requests.Dosync body values) at) = body.index < length table.nodes
-IsBodyThere table h = ⊤
+use Rattle.value_core.specs.Named.{Name}
 
 -- it evaluates the same as the machine that is kept, has the same answers, and was moved to where that one halts
 pub record IsMovedOn (table : Table) (kept : Evaluation) (m : Moved) : Type 0 where
@@ -43,12 +34,6 @@ pub record HasHaltedAt (table : Table) (machine : Evaluation) (h : Halt) : Type 
 abbrev pub HasHalted : Table → Option Evaluation → Option Halt → Type 0
 HasHalted table (Some machine) (Some h) = HasHaltedAt table machine h
 HasHalted table _ _ = ⊤
-
--- a task of an attempt of that unit, on which no claim is
-pub record IsOwned (s : Shared) (task owner : Name) : Type 0 where
-  pub at : IsTaskAt s.board task
-  pub of : named task s.owners ≡ Some owner
-  pub trying : IsTrying s owner
 
 -- a unit that nothing can be done with now
 pub record IsWaitingUnit (b : Board) (owner : Name) : Type 0 where

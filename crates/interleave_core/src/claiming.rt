@@ -2,7 +2,7 @@
 ghost use Rattle.std.specs.Prelude.{◌≡◌, ◌↔◌, IfNone, IfOk, IfSome, IsErrOf, IsTrue, OnErr, OnOk, Some, false, true};
 ghost use Rattle.std.specs.Option.{option_copied};
 ghost use Rattle.interleave_core.specs.Claims.{IsClaimOn};
-ghost use Rattle.interleave_core.specs.Kept.{shared_of, IsSameBut};
+ghost use Rattle.world_steps.specs.Kept.{shared_of, IsSameBut};
 ghost use Rattle.interleave_core.specs.Over.{IsIdle, IsOverWith, IsRunOver};
 ghost use Rattle.interleave_core.specs.declared.error.ClaimNo.TheVariants as no;
 ghost use Rattle.interleave_core.specs.declared.error.NamedNo.TheVariants as named;
@@ -12,88 +12,87 @@ ghost use Rattle.shared_world.specs.Shared.{ready};
 ghost use Rattle.shared_world.specs.Stands.{Stands};
 ghost use Rattle.value_core.specs.Named.{Name as Called};
 
+use crate::claims::claim_piece;
 use crate::error::{ClaimNo, NamedNo};
-use crate::kept::Kept;
 use serial_model::End;
 use std::alloc::{AllocError, Global};
 use value_core::Name;
 use world_claim::Claim;
+use world_steps::Kept;
 
-impl Kept {
-    /// A claim on a piece that is ready, whichever it is.
-    pub(crate) fn claim_any(&mut self, alloc: Global) -> Result<Claim, ClaimNo>
-        requires stands { Stands (shared_of self.old) }
-        ensures claim { IfOk result (λ claim. IsClaimOn claim.piece (shared_of self.old) claim (shared_of self.new)) }
-        ensures ready { IfOk result (λ claim. ready (shared_of self.old) claim.piece ≡ true) }
-        ensures over { IsErrOf result no.Over ↔ IsRunOver (shared_of self.old) }
-        ensures idle { IsErrOf result no.Idle ↔ IsIdle (shared_of self.old) }
-        ensures same { OnErr result (IsSameBut (shared_of self.old) (shared_of self.new)) }
-    {
-        if self.is_over() {
-            return Err(ClaimNo::Over);
-        }
-        let name = match self.first_ready() {
-            Some(name) => name.copy(alloc)?,
-            None => return Err(ClaimNo::Idle),
-        };
-        Ok(self.claim_piece(alloc, &name)?)
+/// A claim on a piece that is ready, whichever it is.
+pub(crate) fn claim_any(kept: &mut Kept, alloc: Global) -> Result<Claim, ClaimNo>
+    requires stands { Stands (shared_of kept.old) }
+    ensures claim { IfOk result (λ claim. IsClaimOn claim.piece (shared_of kept.old) claim (shared_of kept.new)) }
+    ensures ready { IfOk result (λ claim. ready (shared_of kept.old) claim.piece ≡ true) }
+    ensures over { IsErrOf result no.Over ↔ IsRunOver (shared_of kept.old) }
+    ensures idle { IsErrOf result no.Idle ↔ IsIdle (shared_of kept.old) }
+    ensures same { OnErr result (IsSameBut (shared_of kept.old) (shared_of kept.new)) }
+{
+    if is_over(kept) {
+        return Err(ClaimNo::Over);
     }
+    let name = match first_ready(kept) {
+        Some(name) => name.copy(alloc)?,
+        None => return Err(ClaimNo::Idle),
+    };
+    Ok(claim_piece(kept, alloc, &name)?)
+}
 
-    /// A claim on the piece of that name.
-    pub(crate) fn claim_named(&mut self, alloc: Global, name: &Name) -> Result<Claim, NamedNo>
-        requires stands { Stands (shared_of self.old) }
-        ensures claim { IfOk result (λ claim. IsClaimOn name.now (shared_of self.old) claim (shared_of self.new)) }
-        ensures not_ready { IsErrOf result named.NotReady ↔ (ready (shared_of self.old) name.now ≡ false) }
-        ensures same { OnErr result (IsSameBut (shared_of self.old) (shared_of self.new)) }
-    {
-        if !self.is_ready(name) {
-            return Err(NamedNo::NotReady);
-        }
-        Ok(self.claim_piece(alloc, name)?)
+/// A claim on the piece of that name.
+pub(crate) fn claim_named(kept: &mut Kept, alloc: Global, name: &Name) -> Result<Claim, NamedNo>
+    requires stands { Stands (shared_of kept.old) }
+    ensures claim { IfOk result (λ claim. IsClaimOn name.now (shared_of kept.old) claim (shared_of kept.new)) }
+    ensures not_ready { IsErrOf result named.NotReady ↔ (ready (shared_of kept.old) name.now ≡ false) }
+    ensures same { OnErr result (IsSameBut (shared_of kept.old) (shared_of kept.new)) }
+{
+    if !is_ready(kept, name) {
+        return Err(NamedNo::NotReady);
     }
+    Ok(claim_piece(kept, alloc, name)?)
+}
 
-    /// Whether something can be done with the piece, and it is not lent. Once the run has ended nothing can. It takes no
-    /// memory.
-    pub(crate) fn is_ready(&self, name: &Name) -> bool
-        ensures { result ≡ ready (shared_of self.now) name.now }
-    {
-        match &self.end {
-            None => self.units.is_ready(name),
-            Some(_) => false,
-        }
+/// Whether something can be done with the piece, and it is not lent. Once the run has ended nothing can. It takes no
+/// memory.
+pub(crate) fn is_ready(kept: &Kept, name: &Name) -> bool
+    ensures { result ≡ ready (shared_of kept.now) name.now }
+{
+    match &kept.end {
+        None => kept.units.is_ready(name),
+        Some(_) => false,
     }
+}
 
-    /// A piece that is ready. None exactly where nothing is. It takes no memory.
-    fn first_ready(&self) -> Option<&Name>
-        ensures some { IfSome (option_copied result) (λ name. ready (shared_of self.now) name ≡ true) }
-        ensures none { IfNone (option_copied result) ((name : Called) → ready (shared_of self.now) name ≡ false) }
-    {
-        match &self.end {
-            None => self.units.first_ready(),
+/// A piece that is ready. None exactly where nothing is. It takes no memory.
+fn first_ready(kept: &Kept) -> Option<&Name>
+    ensures some { IfSome (option_copied result) (λ name. ready (shared_of kept.now) name ≡ true) }
+    ensures none { IfNone (option_copied result) ((name : Called) → ready (shared_of kept.now) name ≡ false) }
+{
+    match &kept.end {
+        None => kept.units.first_ready(),
+        Some(_) => None,
+    }
+}
+
+/// Whether the run is over. It takes no memory.
+pub(crate) fn is_over(kept: &Kept) -> bool
+    requires stands { Stands (shared_of kept.now) }
+    ensures { IsTrue result ↔ IsRunOver (shared_of kept.now) }
+{
+    end_by(kept, &End::Done).is_some()
+}
+
+/// The end of the run, where it is over: the one that is set, or the given one, which is Done. It takes no memory.
+pub(crate) fn end_by<'a>(kept: &'a Kept, done: &'a End) -> Option<&'a End>
+    requires stands { Stands (shared_of kept.now) }
+    requires done { done.now ≡ ends.Done }
+    ensures { (end : Ending) → IsOverWith (shared_of kept.now) end ↔ (option_copied result ≡ Some end) }
+{
+    match &kept.end {
+        Some(end) => Some(end),
+        None => match kept.units.open_unit() {
             Some(_) => None,
-        }
-    }
-
-    /// Whether the run is over. It takes no memory.
-    pub(crate) fn is_over(&self) -> bool
-        requires stands { Stands (shared_of self.now) }
-        ensures { IsTrue result ↔ IsRunOver (shared_of self.now) }
-    {
-        self.end_by(&End::Done).is_some()
-    }
-
-    /// The end of the run, where it is over: the one that is set, or the given one, which is Done. It takes no memory.
-    pub(crate) fn end_by<'a>(&'a self, done: &'a End) -> Option<&'a End>
-        requires stands { Stands (shared_of self.now) }
-        requires done { done.now ≡ ends.Done }
-        ensures { (end : Ending) → IsOverWith (shared_of self.now) end ↔ (option_copied result ≡ Some end) }
-    {
-        match &self.end {
-            Some(end) => Some(end),
-            None => match self.units.open_unit() {
-                Some(_) => None,
-                None => Some(done),
-            },
-        }
+            None => Some(done),
+        },
     }
 }

@@ -2,7 +2,7 @@
 ghost use Rattle.std.specs.Prelude.{◌≡◌, [], IfOk, None, OnOk, false};
 ghost use Rattle.std.specs.Option.{option_and_then};
 ghost use Rattle.interleave_core.specs.Finishing.{AreEnding, GoesOn, IsEnded, IsFinished, IsNextOr, IsOverOr, IsTriedOr, NoneOut, NoneTried, is_finished};
-ghost use Rattle.interleave_core.specs.Kept.{shared_of};
+ghost use Rattle.world_steps.specs.Kept.{shared_of};
 ghost use Rattle.interleave_core.specs.Over.{IsOverWith};
 ghost use Rattle.shared_world.specs.Later.{IsLater};
 ghost use Rattle.shared_world.specs.Shared.{work_in as kept_work_in};
@@ -10,8 +10,10 @@ ghost use Rattle.shared_world.specs.Stands.{Stands};
 ghost use Rattle.unit_table.specs.Board.{lent_to, mark_at};
 ghost use Rattle.value_core.specs.declared.ticket.Ticket.{Ticket as Numbered};
 
-use crate::claims::work_in;
-use crate::kept::Kept;
+use crate::claiming::end_by;
+use crate::claims::{copy_machine, work_in};
+use crate::giving::give_to;
+use attempt_steps::undo;
 use serial_model::End;
 use shared_world::Given;
 use std::alloc::{AllocError, Global};
@@ -19,145 +21,144 @@ use std::collections::BTreeMap;
 use task_fork_join::Tree;
 use unit_table::{Mark, Units, Work};
 use value_core::Name;
+use world_steps::Kept;
 
-impl Kept {
-    /// Ends the run by one thread: every claim and every attempt ends, and then each entry is settled, until the run is over.
-    /// For want of memory the history has grown by whole entries.
-    pub(crate) fn finish(&mut self, alloc: Global) -> Result<End, AllocError>
-        requires stands { Stands (shared_of self.old) }
-        ensures stands { Stands (shared_of self.new) }
-        ensures later { IsLater (shared_of self.old) (shared_of self.new) }
-        ensures finished { IfOk result (IsFinished (shared_of self.new)) }
-    {
-        self.withdraw(alloc)?;
-        let end = self.settle_all(alloc)?;
-        clear_attempts(&mut self.attempts);
-        Ok(end)
+/// Ends the run by one thread: every claim and every attempt ends, and then each entry is settled, until the run is over.
+/// For want of memory the history has grown by whole entries.
+pub(crate) fn finish(kept: &mut Kept, alloc: Global) -> Result<End, AllocError>
+    requires stands { Stands (shared_of kept.old) }
+    ensures stands { Stands (shared_of kept.new) }
+    ensures later { IsLater (shared_of kept.old) (shared_of kept.new) }
+    ensures finished { IfOk result (IsFinished (shared_of kept.new)) }
+{
+    withdraw(kept, alloc)?;
+    let end = settle_all(kept, alloc)?;
+    clear_attempts(&mut kept.attempts);
+    Ok(end)
+}
+
+/// Every claim and every attempt ends. Where the run has ended no claim is out.
+fn withdraw(kept: &mut Kept, alloc: Global) -> Result<(), AllocError>
+    requires stands { Stands (shared_of kept.old) }
+    ensures goes { GoesOn (shared_of kept.old) (shared_of kept.new) }
+    ensures claims { OnOk result (NoneOut (shared_of kept.new)) }
+{
+    match &kept.end {
+        Some(_) => Ok(()),
+        None => withdraw_going(kept, alloc),
     }
+}
 
-    /// Every claim and every attempt ends. Where the run has ended no claim is out.
-    fn withdraw(&mut self, alloc: Global) -> Result<(), AllocError>
-        requires stands { Stands (shared_of self.old) }
-        ensures goes { GoesOn (shared_of self.old) (shared_of self.new) }
-        ensures claims { OnOk result (NoneOut (shared_of self.new)) }
-    {
-        match &self.end {
-            Some(_) => Ok(()),
-            None => self.withdraw_going(alloc),
+/// Every claim and every attempt of a run that goes on ends.
+fn withdraw_going(kept: &mut Kept, alloc: Global) -> Result<(), AllocError>
+    requires stands { Stands (shared_of kept.old) }
+    requires going { kept.old.end ≡ None }
+    ensures goes { GoesOn (shared_of kept.old) (shared_of kept.new) }
+    ensures claims { OnOk result (NoneOut (shared_of kept.new)) }
+{
+    end_claims(&mut kept.units, alloc)?;
+    undo_all(kept, alloc)
+}
+
+/// Every attempt is undone.
+fn undo_all(kept: &mut Kept, alloc: Global) -> Result<(), AllocError>
+    requires stands { Stands (shared_of kept.old) }
+    requires going { kept.old.end ≡ None }
+    ensures goes { GoesOn (shared_of kept.old) (shared_of kept.new) }
+    ensures none { OnOk result (NoneTried kept.new.attempts.entries) }
+{
+    for _ in 0..u64::MAX {
+        match tried(alloc, &kept.attempts)? {
+            Some(owner) => undo(kept, alloc, &owner)?,
+            None => return Ok(()),
         }
     }
+    Err(AllocError)
+}
 
-    /// Every claim and every attempt of a run that goes on ends.
-    fn withdraw_going(&mut self, alloc: Global) -> Result<(), AllocError>
-        requires stands { Stands (shared_of self.old) }
-        requires going { self.old.end ≡ None }
-        ensures goes { GoesOn (shared_of self.old) (shared_of self.new) }
-        ensures claims { OnOk result (NoneOut (shared_of self.new)) }
-    {
-        end_claims(&mut self.units, alloc)?;
-        self.undo_all(alloc)
-    }
-
-    /// Every attempt is undone.
-    fn undo_all(&mut self, alloc: Global) -> Result<(), AllocError>
-        requires stands { Stands (shared_of self.old) }
-        requires going { self.old.end ≡ None }
-        ensures goes { GoesOn (shared_of self.old) (shared_of self.new) }
-        ensures none { OnOk result (NoneTried self.new.attempts.entries) }
-    {
-        for _ in 0..u64::MAX {
-            match tried(alloc, &self.attempts)? {
-                Some(owner) => self.undo(alloc, &owner)?,
-                None => return Ok(()),
-            }
+/// Settles one entry after the other, always of the first unit in after-order that is not finished, until the run is over.
+fn settle_all(kept: &mut Kept, alloc: Global) -> Result<End, AllocError>
+    requires stands { Stands (shared_of kept.old) }
+    ensures goes { GoesOn (shared_of kept.old) (shared_of kept.new) }
+    ensures end { IfOk result (IsOverWith (shared_of kept.new)) }
+{
+    let mut passed = None;
+    for _ in 0..u64::MAX {
+        if let Some(end) = end_reached(kept, alloc)? {
+            return Ok(end);
         }
-        Err(AllocError)
+        passed = settle_next(kept, alloc, passed)?;
     }
+    Err(AllocError)
+}
 
-    /// Settles one entry after the other, always of the first unit in after-order that is not finished, until the run is over.
-    fn settle_all(&mut self, alloc: Global) -> Result<End, AllocError>
-        requires stands { Stands (shared_of self.old) }
-        ensures goes { GoesOn (shared_of self.old) (shared_of self.new) }
-        ensures end { IfOk result (IsOverWith (shared_of self.new)) }
-    {
-        let mut passed = None;
-        for _ in 0..u64::MAX {
-            if let Some(end) = self.end_reached(alloc)? {
-                return Ok(end);
-            }
-            passed = self.settle_next(alloc, passed)?;
-        }
-        Err(AllocError)
+/// The end of the run, where it is over.
+fn end_reached(kept: &Kept, alloc: Global) -> Result<Option<End>, AllocError>
+    requires stands { Stands (shared_of kept.now) }
+    ensures { IfOk result (IsOverOr (shared_of kept.now)) }
+{
+    match end_by(kept, &End::Done) {
+        Some(end) => Ok(Some(end.copy(alloc)?)),
+        None => Ok(None),
     }
+}
 
-    /// The end of the run, where it is over.
-    fn end_reached(&self, alloc: Global) -> Result<Option<End>, AllocError>
-        requires stands { Stands (shared_of self.now) }
-        ensures { IfOk result (IsOverOr (shared_of self.now)) }
-    {
-        match self.end_by(&End::Done) {
-            Some(end) => Ok(Some(end.copy(alloc)?)),
-            None => Ok(None),
-        }
+/// The first piece behind those that were passed takes a step, where it is not finished. It answers which is passed then.
+fn settle_next(
+    kept: &mut Kept,
+    alloc: Global,
+    passed: Option<Name>,
+) -> Result<Option<Name>, AllocError>
+    requires stands { Stands (shared_of kept.old) }
+    requires going { kept.old.end ≡ None }
+    ensures { GoesOn (shared_of kept.old) (shared_of kept.new) }
+{
+    match next_piece(&kept.units, alloc, &passed)? {
+        Some(name) => settle_or_pass(kept, alloc, name, passed),
+        None => Ok(None),
     }
+}
 
-    /// The first piece behind those that were passed takes a step, where it is not finished. It answers which is passed then.
-    fn settle_next(
-        &mut self,
-        alloc: Global,
-        passed: Option<Name>,
-    ) -> Result<Option<Name>, AllocError>
-        requires stands { Stands (shared_of self.old) }
-        requires going { self.old.end ≡ None }
-        ensures { GoesOn (shared_of self.old) (shared_of self.new) }
-    {
-        match next_piece(&self.units, alloc, &passed)? {
-            Some(name) => self.settle_or_pass(alloc, name, passed),
-            None => Ok(None),
-        }
+/// The piece takes a step. Where it is finished or waits it is passed; else it is the next one still.
+fn settle_or_pass(
+    kept: &mut Kept,
+    alloc: Global,
+    name: Name,
+    passed: Option<Name>,
+) -> Result<Option<Name>, AllocError>
+    requires stands { Stands (shared_of kept.old) }
+    requires going { kept.old.end ≡ None }
+    ensures { GoesOn (shared_of kept.old) (shared_of kept.new) }
+{
+    if is_passed(kept, alloc, &name)? {
+        Ok(Some(name))
+    } else {
+        Ok(passed)
     }
+}
 
-    /// The piece takes a step. Where it is finished or waits it is passed; else it is the next one still.
-    fn settle_or_pass(
-        &mut self,
-        alloc: Global,
-        name: Name,
-        passed: Option<Name>,
-    ) -> Result<Option<Name>, AllocError>
-        requires stands { Stands (shared_of self.old) }
-        requires going { self.old.end ≡ None }
-        ensures { GoesOn (shared_of self.old) (shared_of self.new) }
-    {
-        if self.is_passed(alloc, &name)? {
-            Ok(Some(name))
-        } else {
-            Ok(passed)
-        }
+/// The piece takes a step, where it is not finished. Whether it is finished or waits.
+fn is_passed(kept: &mut Kept, alloc: Global, name: &Name) -> Result<bool, AllocError>
+    requires stands { Stands (shared_of kept.old) }
+    requires going { kept.old.end ≡ None }
+    ensures { GoesOn (shared_of kept.old) (shared_of kept.new) }
+{
+    if is_finished(&kept.units, name) {
+        return Ok(true);
     }
+    settle_piece(kept, alloc, name)
+}
 
-    /// The piece takes a step, where it is not finished. Whether it is finished or waits.
-    fn is_passed(&mut self, alloc: Global, name: &Name) -> Result<bool, AllocError>
-        requires stands { Stands (shared_of self.old) }
-        requires going { self.old.end ≡ None }
-        ensures { GoesOn (shared_of self.old) (shared_of self.new) }
-    {
-        if is_finished(&self.units, name) {
-            return Ok(true);
-        }
-        self.settle_piece(alloc, name)
-    }
-
-    /// The piece takes a step. Whether it waits.
-    fn settle_piece(&mut self, alloc: Global, name: &Name) -> Result<bool, AllocError>
-        requires stands { Stands (shared_of self.old) }
-        requires going { self.old.end ≡ None }
-        requires unfinished { is_finished self.old.units name.now ≡ false }
-        ensures { GoesOn (shared_of self.old) (shared_of self.new) }
-    {
-        let machine = self.copy_machine(alloc, name)?;
-        let given = self.give_to(alloc, name, machine, None)?;
-        Ok(waits(given))
-    }
+/// The piece takes a step. Whether it waits.
+fn settle_piece(kept: &mut Kept, alloc: Global, name: &Name) -> Result<bool, AllocError>
+    requires stands { Stands (shared_of kept.old) }
+    requires going { kept.old.end ≡ None }
+    requires unfinished { is_finished kept.old.units name.now ≡ false }
+    ensures { GoesOn (shared_of kept.old) (shared_of kept.new) }
+{
+    let machine = copy_machine(kept, alloc, name)?;
+    let given = give_to(kept, alloc, name, machine, None)?;
+    Ok(waits(given))
 }
 
 /// Whether the piece waits.

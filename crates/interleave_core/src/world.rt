@@ -2,14 +2,15 @@ ghost use Rattle.std.specs.Prelude.{◌≡◌, ◌↔◌, IfOk, IsErrOf, IsTrue,
 ghost use Rattle.std.specs.Arc.{arc_value};
 ghost use Rattle.std.specs.Option.{option_copied};
 ghost use Rattle.interleave_core.specs.Back.{IsBack};
-ghost use Rattle.interleave_core.specs.Claims.{IsAbandoned, IsClaimOn};
+ghost use Rattle.interleave_core.specs.Claims.{IsAbandoned, IsClaimOn, IsStale};
 ghost use Rattle.interleave_core.specs.Finishing.{IsFinished};
-ghost use Rattle.interleave_core.specs.Kept.{IsSameBut};
+ghost use Rattle.world_steps.specs.Kept.{IsSameBut};
 ghost use Rattle.interleave_core.specs.Over.{IsIdle, IsOverWith, IsRunOver};
 ghost use Rattle.interleave_core.specs.declared.error.ClaimNo.TheVariants as no;
 ghost use Rattle.interleave_core.specs.declared.error.NamedNo.TheVariants as named;
 ghost use Rattle.serial_model.specs.Actors.{IsWithoutActors};
 ghost use Rattle.serial_model.specs.declared.end.End.{End as Ending};
+ghost use Rattle.shared_world.specs.declared.given.Given.TheVariants as answers;
 ghost use Rattle.shared_world.specs.Gave.{Gave};
 ghost use Rattle.shared_world.specs.Later.{IsLater};
 ghost use Rattle.shared_world.specs.Opening.{IsOpening};
@@ -18,8 +19,11 @@ ghost use Rattle.shared_world.specs.Stands.{Stands};
 ghost use Rattle.unit_table.specs.Board.{actor_at};
 ghost use Rattle.value_core.specs.declared.ticket.Ticket.{Ticket as Numbered};
 
+use crate::claiming::{claim_any, claim_named, end_by, is_ready};
+use crate::claims::abandon;
 use crate::error::{ClaimNo, NamedNo, StepNo};
-use crate::kept::Kept;
+use crate::finishing::finish;
+use crate::giving::give;
 use core_syntax::Program;
 use program_coverage::is_without_actors;
 use serial_model::{ActorState, End, History, Limits};
@@ -29,6 +33,7 @@ use std::marker::Model;
 use std::sync::Arc;
 use value_core::{Name, Ticket, Value};
 use world_claim::{Claim, Done};
+use world_steps::Kept;
 
 /// The world that the threads of a run share. Contracts see what it keeps: the history, the versions of refs, the pieces with
 /// their marks and claims, the attempts, the bytes and the end. It always stands for the replay of its history.
@@ -41,7 +46,7 @@ pub struct World {
 
 impl Model for World {
     ghost use Rattle.shared_world.specs.Shared.{Shared, shared_code};
-    ghost use Rattle.interleave_core.specs.Kept.{shared_of};
+    ghost use Rattle.world_steps.specs.Kept.{shared_of};
     ghost use Rattle.interleave_core.specs.Standing.{IsStanding};
 
     ghost Value = { Shared };
@@ -86,7 +91,7 @@ impl World {
         ensures idle { IsErrOf result no.Idle ↔ IsIdle self.old }
         ensures same { OnErr result (IsSameBut self.old self.new) }
     {
-        self.kept.claim_any(alloc)
+        claim_any(&mut self.kept, alloc)
     }
 
     /// A claim on the piece of that name. `NotReady` comes exactly where the piece is not ready. After a refusal nothing has
@@ -96,7 +101,7 @@ impl World {
         ensures not_ready { IsErrOf result named.NotReady ↔ (ready self.old piece.now ≡ false) }
         ensures same { OnErr result (IsSameBut self.old self.new) }
     {
-        self.kept.claim_named(alloc, piece)
+        claim_named(&mut self.kept, alloc, piece)
     }
 
     /// What a result that is given back comes to, and what it changes. The result was run on the world's program. `Stale` comes
@@ -106,10 +111,11 @@ impl World {
     pub fn give(&mut self, alloc: Global, done: Done) -> Result<Given, StepNo>
         requires { done.program ≡ self.old.setup.program }
         ensures gave { IfOk result (λ found. Gave self.old done found self.new) }
+        ensures stale { IfOk result (λ found. found ≡ answers.Stale → IsStale self.old done self.new) }
         ensures back { OnErr result (IsBack self.old done self.new) }
     {
         let parts = done.into_parts();
-        Ok(self.kept.give(alloc, parts)?)
+        Ok(give(&mut self.kept, alloc, parts)?)
     }
 
     /// The claim of that ticket is out no more, where it was, and its piece can be claimed again. Else nothing changes. It takes
@@ -117,7 +123,7 @@ impl World {
     pub fn abandon(&mut self, ticket: Ticket)
         ensures { IsAbandoned ticket self.old self.new }
     {
-        self.kept.abandon(ticket);
+        abandon(&mut self.kept, ticket);
     }
 
     /// Ends the run by one thread: every claim and every attempt ends, and then one entry after the other is settled, always of
@@ -127,7 +133,7 @@ impl World {
         ensures finished { IfOk result (IsFinished self.new) }
         ensures later { IsLater self.old self.new }
     {
-        self.kept.finish(alloc)
+        finish(&mut self.kept, alloc)
     }
 
     /// The entries so far.
@@ -149,7 +155,7 @@ impl World {
     pub fn end(&self) -> Option<&End>
         ensures { (end : Ending) → IsOverWith self.now end ↔ (option_copied result ≡ Some end) }
     {
-        self.kept.end_by(&self.done)
+        end_by(&self.kept, &self.done)
     }
 
     /// What the ref holds now. None exactly where it is not there. It takes no memory.
@@ -173,7 +179,7 @@ impl World {
     pub fn is_ready(&self, piece: &Name) -> bool
         ensures { result ≡ ready self.now piece.now }
     {
-        self.kept.is_ready(piece)
+        is_ready(&self.kept, piece)
     }
 
     /// The world stands for the replay of its history, and its program has no actors. It does nothing.

@@ -5,7 +5,6 @@ use Rattle.core_syntax.specs.Table.{Table}
 use Rattle.interleave_core.specs.Back.{IsBack}
 use Rattle.interleave_core.specs.Claims.{IsAbandoned, IsClaimOn}
 use Rattle.interleave_core.specs.Grown.{IsDone}
-use Rattle.interleave_core.specs.Kept.{IsSameBut}
 use Rattle.interleave_core.specs.Over.{IsRunOver}
 use Rattle.serial_model.specs.declared.entry.Entry.{Entry}
 use Rattle.serial_model.specs.Limits.{Budget}
@@ -20,6 +19,7 @@ use Rattle.value_core.specs.declared.ticket.Ticket.{Ticket}
 use Rattle.value_core.specs.Named.{Name}
 use Rattle.world_claim.specs.Lent.{Lent}
 use Rattle.world_lock.specs.Later.{IsLater}
+use Rattle.world_steps.specs.Kept.{IsSameBut}
 
 -- what the lock sees of a world
 abbrev pub setup_seen : Shared → Table × Budget

@@ -2,7 +2,7 @@ use Rattle.std.proofs.Common.{◌≡◌, ◌∙◌, ap, subst, sym}
 use Rattle.std.specs.Arc.{arc_value}
 use Rattle.interleave_core.proofs.Worlds.{given-standing, run-here}
 use Rattle.interleave_core.proofs.world.World.give.Goals as goal
-use Rattle.interleave_core.specs.Kept.{shared_of}
+use Rattle.world_steps.specs.Kept.{shared_of}
 use Rattle.shared_world.specs.Shared.{Shared}
 use Rattle.world_claim.specs.Run.{IsRunOf, returned_of}
 
@@ -14,4 +14,4 @@ give-requires-clause-run c =
 
 pub invariant_of-self-2 : goal.invariant_of-self-2
 invariant_of-self-2 c =
-    given-standing (shared_of c.self.inside.kept) (shared_of c.give.new.self) (returned_of (arc_value c.self.inside.kept.program) c.into_parts-parts.result) c.self.inside.done c.give.result c.self.invariant c.give.ensures
+    given-standing (shared_of c.self.inside.kept) (shared_of c.give.new.kept) (returned_of (arc_value c.self.inside.kept.program) c.into_parts-parts.result) c.self.inside.done c.give.result c.self.invariant c.give.ensures

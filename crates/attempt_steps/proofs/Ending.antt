@@ -1,0 +1,150 @@
+-- Claims on what is gone.
+use Rattle.std.proofs.Common.{◌≡◌, ◌∙◌, Bool, true, false, cond, refl, sym, ap, subst}
+use Rattle.std.specs.Prelude.{None, Option, Some, is_some, not, ◌&&◌, ◌||◌, if◌then◌else◌}
+use Rattle.attempt_steps.specs.Gone.{GoneEnd, IsFree}
+use Rattle.attempt_steps.specs.Tasks.{IsTaskIn}
+use Rattle.world_steps.proofs.Settling.{claims-end}
+use Rattle.shared_world.proofs.Live.{unit-piece}
+use Rattle.shared_world.specs.declared.given.Given.{Given}
+use Rattle.shared_world.specs.Gave.{gone_with, is_gone}
+use Rattle.shared_world.specs.rows.Attempts.{AttemptGoes}
+use Rattle.shared_world.specs.rows.Pieces.{ClaimsEnd, IsSet, but_gone, is_task, piece_or_task, task_gone}
+use Rattle.shared_world.specs.rows.Tasks.{EndGives, RootGives, conflicts, valid}
+use Rattle.shared_world.specs.Shared.{Shared, claimed, is_going}
+use Rattle.task_fork_join.specs.Attempt.{Attempt}
+use Rattle.task_fork_join.specs.declared.task_end.TaskEnd.{TaskEnd}
+use Rattle.task_fork_join.specs.declared.task_end.TaskEnd.TheVariants as end
+use Rattle.unit_table.specs.Board.{Board, IsPutAt, IsUnlent, lent_to, piece_at}
+use Rattle.unit_table.specs.declared.mark.Mark.{Mark}
+use Rattle.unit_table.specs.declared.piece.Piece.{Piece}
+use Rattle.unit_table.specs.declared.piece.Piece.TheVariants as piece
+use Rattle.unit_table.specs.declared.unit.Unit.{Unit}
+use Rattle.unit_table.specs.Piece.{beside, says_finished, woken}
+use Rattle.value_core.proofs.NamedLaws.{same_name-equal, same_name-itself}
+use Rattle.value_core.specs.declared.ticket.Ticket.{Ticket}
+use Rattle.value_core.specs.Named.{Name, named, same_name}
+
+-- what stands is there still
+abbrev pub NoneGone : Board → Board → Type 0
+NoneGone old new = (q : Name) → is_some (piece_at old q) ≡ true → is_some (piece_at new q) ≡ true
+
+not-gone : (a b : Bool) → (a ≡ true → b ≡ true) → (a && not b) ≡ false
+not-gone false b stays = refl
+not-gone true true stays = refl
+not-gone true false stays = let no : false ≡ true = stays refl in cc
+
+-- where none is gone, the claims on the one end
+pub one-ends : (task : Name) (old new : Shared) → NoneGone old.board new.board → ClaimsEnd (λ q. same_name q task) old new → ClaimsEnd (gone_with old.board new.board task) old new
+one-ends task old new none ends going ticket = ends going ticket ∙ on (claimed old ticket)
+  where
+    or-false : (a b : Bool) → b ≡ false → a ≡ (a || b)
+    or-false true b e = refl
+    or-false false b e = sym e
+
+    on : (found : Option Name) → but_gone (λ q. same_name q task) found ≡ but_gone (gone_with old.board new.board task) found
+    on None = refl
+    on (Some q) = ap (λ c. cond c None (Some q)) (or-false (same_name q task) (is_gone old.board new.board q) (not-gone (is_some (piece_at old.board q)) (is_some (piece_at new.board q)) (none q)))
+
+-- a piece beside one that is marked is there still
+beside-there : (name : Name) (m : Mark) (found : Option Piece) → is_some found ≡ true → is_some (beside name m found) ≡ true
+beside-there name m None some = cc
+beside-there name m (Some p) some = on (says_finished m)
+  where
+    on : (c : Bool) → is_some (cond c (Some (woken name p)) (Some p)) ≡ true
+    on true = refl
+    on false = refl
+
+apart : (q u : Name) → same_name q u ≡ false → q ≡ u → ⊥
+apart q u e same = let no : true ≡ false = sym (same_name-itself u) ∙ ap (λ n. same_name n u) (sym same) ∙ e in cc
+
+pub set-keeps : (name : Name) (p : Piece) (m : Mark) (old new : Board) → IsSet name p m old new → NoneGone old new
+set-keeps name p m old new set q some = on (same_name q name) refl
+  where
+    on : (c : Bool) → same_name q name ≡ c → is_some (piece_at new q) ≡ true
+    on true e = ap (λ n. is_some (piece_at new n)) (same_name-equal q name e) ∙ ap is_some set.here
+    on false e = ap is_some (set.others q (apart q name e)) ∙ beside-there name m (piece_at old q) some
+
+pub put-keeps : (name : Name) (p : Piece) (old new : Board) → IsPutAt name (Some p) old new → NoneGone old new
+put-keeps name p old new put q some = on (same_name q name) refl
+  where
+    on : (c : Bool) → same_name q name ≡ c → is_some (piece_at new q) ≡ true
+    on true e = ap (λ n. is_some (piece_at new n)) (same_name-equal q name e) ∙ ap is_some put.here
+    on false e = ap is_some (put.others q (apart q name e)) ∙ some
+
+-- the claims of a task that was marked
+pub marked-ends : (task : Name) (old new : Shared) → new.end ≡ old.end → NoneGone old.board new.board → IsUnlent task old.board new.board → ClaimsEnd (gone_with old.board new.board task) old new
+marked-ends task old new same none unlent = one-ends task old new none (claims-end task old new same unlent)
+
+-- what a claim lends while no end is set
+claimed-going : (s : Shared) (ticket : Ticket) → is_going s.end ≡ true → claimed s ticket ≡ lent_to s.board ticket
+claimed-going s ticket going = ap (λ g. if g then lent_to s.board ticket else None) going
+
+-- an attempt that goes ends the claims on what is gone
+pub goes-end : (old new : Shared) (owner : Name) (y : Unit) (tree : Attempt) → new.end ≡ old.end → IsFree old.board owner → AttemptGoes old owner y tree new → ClaimsEnd (piece_or_task old.board owner tree) old new → GoneEnd old new
+goes-end old new owner y tree same free goes ends going ticket = ends going ticket ∙ on (claimed old ticket) refl
+  where
+    old_going : is_going old.end ≡ true
+    old_going = sym (ap is_going same) ∙ going
+
+    by : (b : Bool) (p q' : Option Piece) → q' ≡ cond b (task_gone p) p → (b && is_task p) ≡ (is_some p && not (is_some q'))
+    by false None q' e = refl
+    by false (Some p) q' e = sym (ap (λ k. true && not (is_some k)) e)
+    by true None q' e = refl
+    by true (Some (piece.Unit x)) q' e = sym (ap (λ k. true && not (is_some k)) e)
+    by true (Some (piece.Task m)) q' e = sym (ap (λ k. true && not (is_some k)) e)
+    by true (Some (piece.Actor a)) q' e = sym (ap (λ k. true && not (is_some k)) e)
+
+    at : (q : Name) (c : Bool) → same_name q owner ≡ c → claimed old ticket ≡ Some q → cond (c || (is_some (named q tree.tasks) && is_task (piece_at old.board q))) None (Some q) ≡ cond (is_gone old.board new.board q) None (Some q)
+    at q true e is = absurd (free ticket (sym (claimed-going old ticket old_going) ∙ is ∙ ap Some (same_name-equal q owner e)))
+    at q false e is = ap (λ c. cond c None (Some q)) (by (is_some (named q tree.tasks)) (piece_at old.board q) (piece_at new.board q) (goes.tasks.others q (apart q owner e)))
+
+    on : (found : Option Name) → claimed old ticket ≡ found → but_gone (piece_or_task old.board owner tree) found ≡ but_gone (is_gone old.board new.board) found
+    on None is = refl
+    on (Some q) is = at q (same_name q owner) refl is
+
+-- a task of an attempt that goes is gone
+task-goes : (old new : Shared) (owner task : Name) (y : Unit) (tree : Attempt) → IsTaskIn old owner task tree → AttemptGoes old owner y tree new → is_gone old.board new.board task ≡ true
+task-goes old new owner task y tree is goes = ap (λ p. is_some p && not (is_some (piece_at new.board task))) is.there ∙ ap (λ p. not (is_some p)) gone
+  where
+    not_owner : task ≡ owner → ⊥
+    not_owner same = let no : Some (piece.Task is.mark) ≡ Some (piece.Unit is.unit) = sym is.there ∙ ap (piece_at old.board) same ∙ unit-piece old.board owner is.unit is.unit_there in cc
+
+    gone : piece_at new.board task ≡ None
+    gone = goes.tasks.others task not_owner ∙ ap (λ c. cond c (task_gone (piece_at old.board task)) (piece_at old.board task)) is.among ∙ ap task_gone is.there
+
+-- the claims end of a task whose attempt was decided on
+pub decided-ends : (old new : Shared) (owner task : Name) (x : Unit) (tree : Attempt) (ended : TaskEnd) (found : Given) → IsTaskIn old owner task tree → RootGives old owner x tree ended found new → GoneEnd old new
+    → ClaimsEnd (gone_with old.board new.board task) old new
+decided-ends old new owner task x tree ended found is gives ends going ticket = ends going ticket ∙ on (claimed old ticket)
+  where
+    here : is_gone old.board new.board task ≡ true
+    here = by gives
+      where
+        by-end : (e : TaskEnd) → EndGives old owner x tree e found new → is_gone old.board new.board task ≡ true
+        by-end (end.Value v) row = task-goes old new owner task row.unit tree is row.goes
+        by-end (end.Fault code at) row = let no : false ≡ true = sym (ap (λ (s : Shared). is_going s.end) row.others) ∙ going in cc
+        by-end end.Spent row = let no : false ≡ true = sym (ap (λ (s : Shared). is_going s.end) row.others) ∙ going in cc
+
+        by : RootGives old owner x tree ended found new → is_gone old.board new.board task ≡ true
+        by (valid all row) = by-end ended row
+        by (conflicts row) = task-goes old new owner task row.aborts.unit tree is row.aborts.goes
+
+    at : (q : Name) (c : Bool) → same_name q task ≡ c → is_gone old.board new.board q ≡ (c || is_gone old.board new.board q)
+    at q true e = ap (is_gone old.board new.board) (same_name-equal q task e) ∙ here
+    at q false e = refl
+
+    on : (found : Option Name) → but_gone (is_gone old.board new.board) found ≡ but_gone (gone_with old.board new.board task) found
+    on None = refl
+    on (Some q) = ap (λ c. cond c None (Some q)) (at q (same_name q task) refl)
+
+-- and of a task whose attempt was undone
+pub undone-ends : (old new : Shared) (owner task : Name) (y : Unit) (tree : Attempt) → IsTaskIn old owner task tree → AttemptGoes old owner y tree new → GoneEnd old new → ClaimsEnd (gone_with old.board new.board task) old new
+undone-ends old new owner task y tree is goes ends going ticket = ends going ticket ∙ on (claimed old ticket)
+  where
+    at : (q : Name) (c : Bool) → same_name q task ≡ c → is_gone old.board new.board q ≡ (c || is_gone old.board new.board q)
+    at q true e = ap (is_gone old.board new.board) (same_name-equal q task e) ∙ task-goes old new owner task y tree is goes
+    at q false e = refl
+
+    on : (found : Option Name) → but_gone (is_gone old.board new.board) found ≡ but_gone (gone_with old.board new.board task) found
+    on None = refl
+    on (Some q) = ap (λ c. cond c None (Some q)) (at q (same_name q task) refl)

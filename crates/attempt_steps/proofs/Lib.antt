@@ -1,0 +1,11 @@
+pub mod Aborting
+pub mod Again
+pub mod Committing
+pub mod Decided
+pub mod Ended
+pub mod Ending
+pub mod Gone
+pub mod Live
+pub mod Stepped
+pub mod Taking
+pub mod Wanting

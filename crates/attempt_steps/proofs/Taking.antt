@@ -1,0 +1,171 @@
+-- Steps of tasks, and what comes of them.
+use Rattle.std.proofs.Common.{◌≡◌, ◌∙◌, Bool, true, false, ℕ, cond, inl, inr, refl, sym, ap, subst}
+use Rattle.std.specs.Option.{IsSome, option_and_then}
+use Rattle.std.specs.Prelude.{Err, IfOk, IfSome, None, Ok, OnErr, Option, Result, Some, is_err, is_some}
+use Rattle.std.specs.declared.alloc.AllocError.{AllocError}
+use Rattle.eval_step.specs.Evaluation.{Evaluation}
+use Rattle.attempt_steps.proofs.Decided.{at-attempt}
+use Rattle.attempt_steps.proofs.Ending.{NoneGone, decided-ends, goes-end, marked-ends, put-keeps, set-keeps, undone-ends}
+use Rattle.world_steps.proofs.Forking.{same-stands}
+use Rattle.attempt_steps.proofs.Wanting.{same-wanting}
+use Rattle.attempt_steps.specs.declared.tasks.Child.{Child}
+use Rattle.attempt_steps.specs.Deciding.{DecidedOr, IsTrying}
+use Rattle.world_steps.specs.Kept.{IsSameBut}
+use Rattle.attempt_steps.specs.Tasks.{ComesAfter, DecidedOrWaits, HasMissed, ForksTask, HasForkedTask, HasStepped, IfNewest, IsTaskAt, IsTaskIn, IsWanting, MissesOr, TaskMarked, TaskWaits}
+use Rattle.attempt_steps.specs.Undoing.{AbortsOr}
+use Rattle.ref_store.specs.declared.version.Version.{Version}
+use Rattle.ref_store.specs.Store.{versions_of}
+use Rattle.ref_store.specs.Version.{newest}
+use Rattle.serial_model.specs.declared.halt.Halt.{Halt}
+use Rattle.shared_world.proofs.Live.{no-unit}
+use Rattle.shared_world.proofs.Steps.{marked-task}
+use Rattle.shared_world.specs.declared.given.Given.{Given}
+use Rattle.shared_world.specs.Gave.{gone_with}
+use Rattle.shared_world.specs.rows.Attempts.{Aborts, AttemptGoes}
+use Rattle.shared_world.specs.rows.Pieces.{ClaimsEnd}
+use Rattle.shared_world.specs.rows.Tasks.{AfterStep, Missing}
+use Rattle.shared_world.specs.Shared.{Shared}
+use Rattle.shared_world.specs.Stands.{Stands}
+use Rattle.task_fork_join.specs.Attempt.{Attempt, end_at}
+use Rattle.task_fork_join.specs.declared.stepped.Stepped.{Stepped}
+use Rattle.task_fork_join.specs.declared.stepped.Stepped.TheVariants as stepped
+use Rattle.task_fork_join.specs.declared.task_end.TaskEnd.{TaskEnd}
+use Rattle.task_fork_join.specs.Step.{IsStep}
+use Rattle.txn_snapshot.specs.SnapshotAnswer.{snapshot_of}
+use Rattle.unit_table.specs.Board.{but_for, lent_to, piece_at, unit_at}
+use Rattle.unit_table.specs.declared.mark.Mark.TheVariants as mark
+use Rattle.unit_table.specs.declared.mark.Work.TheVariants as work
+use Rattle.unit_table.specs.declared.piece.Piece.TheVariants as piece
+use Rattle.unit_table.specs.declared.unit.Unit.{Unit}
+use Rattle.value_core.proofs.NamedLaws.{same_name-equal}
+use Rattle.value_core.specs.declared.value.Value.{Value}
+use Rattle.value_core.specs.Named.{Name, Named, named, same_name, with_named}
+
+pub on-err : {X E : Type 0} (r : Result X E) {A B : Type 0} → (A → B) → OnErr r A → OnErr r B
+on-err (Ok x) f is = tt
+on-err (Err e) f is = f is
+
+-- the attempt that is written through has taken the step
+pub has-stepped : (owner task : Name) (moved : Evaluation) (outer : Option Value) (h : Halt) (versions : Named _) (old new : Named Attempt) (tree after : Attempt) (result : Result Stepped AllocError)
+    → named owner old ≡ Some tree → new ≡ with_named old owner after → IfOk result (λ went. IsStep (snapshot_of versions tree.snapshot) task moved outer h tree after went)
+    → IfOk result (λ went. IfSome (named owner old) (λ t. HasStepped (snapshot_of versions t.snapshot) owner task moved outer h t old new went))
+has-stepped owner task moved outer h versions old new tree after (Err e) there put step = tt
+has-stepped owner task moved outer h versions old new tree after (Ok went) there put step =
+    subst (λ (o : Option Attempt). IfSome o (λ t. HasStepped (snapshot_of versions t.snapshot) owner task moved outer h t old new went)) (sym there) (record { after = after; put = put; step = step })
+
+-- a task of an attempt that is there
+pub record HasTask (s : Shared) (owner task : Name) : Type 0 where
+  pub tree : Attempt
+  pub is : IsTaskIn s owner task tree
+
+pub has-task : (s : Shared) (owner task : Name) → IfSome (named owner s.attempts) (IsTaskIn s owner task) → IsSome (named owner s.attempts) → HasTask s owner task
+has-task s owner task at there = on (named owner s.attempts) at there
+  where
+    on : (o : Option Attempt) → IfSome o (IsTaskIn s owner task) → IsSome o → HasTask s owner task
+    on None at is = absurd (cc)
+    on (Some tree) at is = record { tree = tree; is = at }
+
+-- the attempt is undone for a ref that its snapshot does not have
+pub missed : (old new : Shared) (owner ref : Name) (number : ℕ) (result : Result Given AllocError) → IsTrying old owner → IfNewest (newest (versions_of old.versions ref)) number → AbortsOr old owner ref number new result → MissesOr old owner ref new result
+missed old new owner ref number (Err e) trying is r = r
+missed old new owner ref number (Ok found) trying is r = record {
+  row = λ x tree there attempt. on (newest (versions_of old.versions ref)) is x tree (r.row x tree there attempt);
+  claims =
+      let has = trying.has in
+      let row = r.row has.unit has.tree has.there has.attempt in
+      goes-end old new owner row.unit has.tree (ap (λ (s : Shared). s.end) row.others) trying.free row.goes (r.claims has.tree has.attempt);
+}
+  where
+    on : (v : Option Version) → IfNewest v number → (x : Unit) (tree : Attempt) → Aborts old owner x tree ref number found new → Missing old owner x tree ref v found new
+    on None never x tree row = absurd never
+    on (Some version) is_number x tree row = subst (λ n. Aborts old owner x tree ref n found new) is_number row
+
+-- a decision that found no memory leaves the task ready to settle
+pub decided-waits : (old mid new : Shared) (owner task : Name) (result : Result Given AllocError) → is_err result ≡ true → Stands old → IsTaskAt old.board task → DecidedOr old owner mid result → TaskMarked mid task (mark.Ready work.Settle) new
+    → DecidedOrWaits old owner task new result
+decided-waits old mid new owner task (Ok found) err st at decided marked = cc
+decided-waits old mid new owner task (Err e) err st at same marked = record {
+  stands = marked-task mid (same-stands old mid st same) task (mark.Ready work.Settle) new (no-unit mid.board task at.mark (same.pieces task ∙ at.there)) marked.marked;
+  here = inr marked.marked.set.here;
+  others = λ other ne. marked.marked.set.others other ne ∙ same.pieces other;
+  claims = λ ticket free. marked.unlent.to ticket ∙ ap (but_for task) (same.claims.to ticket) ∙ on (lent_to old.board ticket) free;
+  rest = marked.marked.others ∙ ap (λ (s : Shared). record s { board = new.board }) same.rest ∙ ap (λ a. record old { attempts = a; board = new.board }) (sym (ap (λ (s : Shared). s.attempts) (marked.marked.others ∙ ap (λ (s : Shared). record s { board = new.board }) same.rest)));
+}
+  where
+    by : (q : Name) (c : Bool) → same_name q task ≡ c → (Some q ≡ Some task → ⊥) → cond c None (Some q) ≡ Some q
+    by q true e free = absurd (free (ap Some (same_name-equal q task e)))
+    by q false e free = refl
+
+    on : (found : Option Name) → (found ≡ Some task → ⊥) → but_for task found ≡ found
+    on None free = refl
+    on (Some q) free = by q (same_name q task) refl free
+
+some-end : (o : Option TaskEnd) → true ≡ is_some o → (P : Option TaskEnd → Type 0) → ((e : TaskEnd) → o ≡ Some e → P (Some e)) → P o
+some-end None is P all = cc
+some-end (Some e) is P all = all e refl
+
+no-end : (o : Option TaskEnd) → false ≡ is_some o → (P : Option TaskEnd → Type 0) → P None → P o
+no-end None is P none = none
+no-end (Some e) is P none = cc
+
+-- the root is at its end
+pub after-ended : (old new : Shared) (owner task : Name) (went : Stepped) (result : Result Given AllocError) → HasTask old owner task → IfSome (named owner old.attempts) (λ tree. true ≡ is_some (end_at tree)) → DecidedOrWaits old owner task new result
+    → ComesAfter old owner task went new result
+after-ended old new owner task went (Err e) has ended r = r
+after-ended old new owner task went (Ok found) has ended r = record {
+  row = λ x tree there attempt.
+      some-end (end_at tree) (at-attempt (named owner old.attempts) (λ (t : Attempt). true ≡ is_some (end_at t)) tree attempt ended) (λ e. AfterStep old owner x task tree went e found new) (λ e is. r.row x tree e there attempt is);
+  claims =
+      some-end (end_at has.tree) (at-attempt (named owner old.attempts) (λ (t : Attempt). true ≡ is_some (end_at t)) has.tree has.is.attempt ended) (λ e. ClaimsEnd (gone_with old.board new.board task) old new)
+      (λ e is. decided-ends old new owner task has.is.unit has.tree e found has.is (r.row has.is.unit has.tree e has.is.unit_there has.is.attempt is) r.claims);
+}
+
+-- it is not, and the task waits
+pub after-waits : (old new : Shared) (owner task future : Name) (went : Stepped) (result : Result Given AllocError) → Stands old → HasTask old owner task → IfSome (named owner old.attempts) (λ tree. false ≡ is_some (end_at tree)) → went ≡ stepped.WaitJoin future
+    → TaskWaits old task future new result → ComesAfter old owner task went new result
+after-waits old new owner task future went (Err e) st has going is r = same-wanting old new task st r
+after-waits old new owner task future went (Ok found) st has going is r = record {
+  row = λ x tree there attempt.
+      no-end (end_at tree) (at-attempt (named owner old.attempts) (λ (t : Attempt). false ≡ is_some (end_at t)) tree attempt going) (λ e. AfterStep old owner x task tree went e found new)
+      (subst (λ k. AfterStep old owner x task tree k None found new) (sym is) (r.found_is, r.marked.marked));
+  claims = marked-ends task old new (ap (λ (s : Shared). s.end) r.marked.marked.others) (set-keeps task _ _ old.board new.board r.marked.marked.set) r.marked.unlent;
+}
+
+-- the attempt of the unit goes, and the unit stands somewhere
+record Goes (old : Shared) (owner : Name) (tree : Attempt) (new : Shared) : Type 0 where
+  unit : Unit
+  goes : AttemptGoes old owner unit tree new
+
+-- it is not, and the snapshot does not have the ref
+pub after-misses : (old new : Shared) (owner task ref : Name) (went : Stepped) (result : Result Given AllocError) → Stands old → HasTask old owner task → IfSome (named owner old.attempts) (λ tree. false ≡ is_some (end_at tree))
+    → went ≡ stepped.NotInSnapshot ref → MissesOr old owner ref new result → ComesAfter old owner task went new result
+after-misses old new owner task ref went (Err e) st has going is r = same-wanting old new task st r
+after-misses old new owner task ref went (Ok found) st has going is r = record {
+  row = λ x tree there attempt.
+      no-end (end_at tree) (at-attempt (named owner old.attempts) (λ (t : Attempt). false ≡ is_some (end_at t)) tree attempt going) (λ e. AfterStep old owner x task tree went e found new)
+      (subst (λ k. AfterStep old owner x task tree k None found new) (sym is) (r.row x tree there attempt));
+  claims = let goes = gone (newest (versions_of old.versions ref)) (r.row has.is.unit has.tree has.is.unit_there has.is.attempt) in undone-ends old new owner task goes.unit has.tree has.is goes.goes r.claims;
+}
+  where
+    gone : (v : Option Version) → Missing old owner has.is.unit has.tree ref v found new → Goes old owner has.tree new
+    gone None row = absurd row
+    gone (Some version) row = record { unit = row.unit; goes = row.goes }
+
+-- it is not, and the task forks
+pub after-forks : (old new : Shared) (owner task future : Name) (went : Stepped) (result : Result Given AllocError) → Stands old → HasTask old owner task → IfSome (named owner old.attempts) (λ tree. false ≡ is_some (end_at tree)) → went ≡ stepped.Forked future
+    → ForksTask old owner task future new result → ComesAfter old owner task went new result
+after-forks old new owner task future went (Err e) st has going is r = same-wanting old new task st r
+after-forks old new owner task future went (Ok found) st has going is r = record {
+  row = λ x tree there attempt.
+      no-end (end_at tree) (at-attempt (named owner old.attempts) (λ (t : Attempt). false ≡ is_some (end_at t)) tree attempt going) (λ e. AfterStep old owner x task tree went e found new)
+      (subst (λ k. AfterStep old owner x task tree k None found new) (sym is) (r.found_is, r.forked));
+  claims = marked-ends task old new (ap (λ (s : Shared). s.end) r.forked.steps.others) none r.unlent;
+}
+  where
+    none : NoneGone old.board new.board
+    none q some = set-keeps task _ _ r.forked.board new.board r.forked.steps.set q (put-keeps future _ old.board r.forked.board r.forked.put q some)
+
+-- the child is of the future, and of the attempt of that unit
+pub forked-so : (old new : Shared) (owner task future : Name) (child : Child) (found : Given) → child.name ≡ future → child.owner ≡ owner → HasForkedTask old child.owner task child.name new found → HasForkedTask old owner task future new found
+forked-so old new owner task future child found is_name is_owner r =
+    subst (λ n. HasForkedTask old owner task n new found) is_name (subst (λ o. HasForkedTask old o task child.name new found) is_owner r)

@@ -1,0 +1,31 @@
+use Rattle.std.proofs.Common.{◌≡◌, subst}
+use Rattle.std.specs.Prelude.{IfSome, is_some}
+use Rattle.attempt_steps.proofs.Taking.{after-ended, after-forks, after-misses, after-waits, has-task}
+use Rattle.world_steps.specs.Kept.{shared_of}
+use Rattle.task_fork_join.specs.Attempt.{end_at}
+use Rattle.value_core.specs.Named.{named}
+use Rattle.attempt_steps.proofs.tasks.after_step.Goals as goal
+
+pub returns-then-has_ended : goal.returns-then-has_ended
+returns-then-has_ended c =
+    let s = shared_of c.args.kept.now in
+    after-ended s (shared_of c.decide_or_wait.new.kept) c.args.owner.now c.args.task.now c.args.went c.decide_or_wait.result (has-task s c.args.owner.now c.args.task.now c.requires.at c.requires.there)
+    (subst (λ b. IfSome (named c.args.owner.now s.attempts) (λ tree. b ≡ is_some (end_at tree))) c.if-has_ended.true c.has_ended.ensures) c.decide_or_wait.ensures
+
+pub returns-in-WaitJoin : goal.returns-in-WaitJoin
+returns-in-WaitJoin c =
+    let s = shared_of c.args.kept.now in
+    after-waits s (shared_of c.wait_for_task.new.kept) c.args.owner.now c.args.task.now c.in-WaitJoin.future c.args.went c.wait_for_task.result c.requires.stands (has-task s c.args.owner.now c.args.task.now c.requires.at c.requires.there)
+    (subst (λ b. IfSome (named c.args.owner.now s.attempts) (λ tree. b ≡ is_some (end_at tree))) c.if-has_ended.false c.has_ended.ensures) c.in-WaitJoin.is c.wait_for_task.ensures
+
+pub returns-in-NotInSnapshot : goal.returns-in-NotInSnapshot
+returns-in-NotInSnapshot c =
+    let s = shared_of c.args.kept.now in
+    after-misses s (shared_of c.miss.new.kept) c.args.owner.now c.args.task.now c.in-NotInSnapshot.name c.args.went c.miss.result c.requires.stands (has-task s c.args.owner.now c.args.task.now c.requires.at c.requires.there)
+    (subst (λ b. IfSome (named c.args.owner.now s.attempts) (λ tree. b ≡ is_some (end_at tree))) c.if-has_ended.false c.has_ended.ensures) c.in-NotInSnapshot.is c.miss.ensures
+
+pub returns-in-Forked : goal.returns-in-Forked
+returns-in-Forked c =
+    let s = shared_of c.args.kept.now in
+    after-forks s (shared_of c.add_forked.new.kept) c.args.owner.now c.args.task.now c.in-Forked.future c.args.went c.add_forked.result c.requires.stands (has-task s c.args.owner.now c.args.task.now c.requires.at c.requires.there)
+    (subst (λ b. IfSome (named c.args.owner.now s.attempts) (λ tree. b ≡ is_some (end_at tree))) c.if-has_ended.false c.has_ended.ensures) c.in-Forked.is c.add_forked.ensures

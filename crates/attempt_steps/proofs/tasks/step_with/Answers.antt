@@ -1,0 +1,42 @@
+use Rattle.std.proofs.Common.{ap, refl, subst, sym}
+use Rattle.std.specs.Option.{IsSome}
+use Rattle.std.specs.Prelude.{IfSome}
+use Rattle.attempt_steps.proofs.Wanting.{same-itself, taken, taken-came, taken-stands, taken-task}
+use Rattle.world_steps.specs.Kept.{shared_of}
+use Rattle.attempt_steps.specs.Tasks.{IsTaskIn}
+use Rattle.shared_world.specs.Shared.{is_going}
+use Rattle.attempt_steps.proofs.tasks.step_with.Goals as goal
+
+pub after_step-requires-clause-stands : goal.after_step-requires-clause-stands
+after_step-requires-clause-stands c =
+    let old = shared_of c.args.kept.now in
+    let mid = shared_of c.take_step.new.kept in
+    let going = ap is_going c.requires.going in
+    let t = taken old old mid c.args.owner.now c.args.task.now c.args.moved c.args.halt c.requires.task c.in-Ok.went (same-itself old) c.in-Ok.ensures.step (ap shared_of c.in-Ok.ensures.others) in
+    taken-stands old mid c.requires.stands going c.args.owner.now c.args.task.now c.args.moved c.args.halt c.requires.task c.in-Ok.went t
+
+pub after_step-requires-clause-at : goal.after_step-requires-clause-at
+after_step-requires-clause-at c =
+    let old = shared_of c.args.kept.now in
+    let mid = shared_of c.take_step.new.kept in
+    let going = ap is_going c.requires.going in
+    let t = taken old old mid c.args.owner.now c.args.task.now c.args.moved c.args.halt c.requires.task c.in-Ok.went (same-itself old) c.in-Ok.ensures.step (ap shared_of c.in-Ok.ensures.others) in
+    let is = taken-task old mid c.requires.stands going c.args.owner.now c.args.task.now c.args.moved c.args.halt c.requires.task c.in-Ok.went t in
+    subst (λ o. IfSome o (IsTaskIn mid c.args.owner.now c.args.task.now)) (sym is.attempt) is
+
+pub after_step-requires-clause-there : goal.after_step-requires-clause-there
+after_step-requires-clause-there c =
+    let old = shared_of c.args.kept.now in
+    let mid = shared_of c.take_step.new.kept in
+    let going = ap is_going c.requires.going in
+    let t = taken old old mid c.args.owner.now c.args.task.now c.args.moved c.args.halt c.requires.task c.in-Ok.went (same-itself old) c.in-Ok.ensures.step (ap shared_of c.in-Ok.ensures.others) in
+    let is = taken-task old mid c.requires.stands going c.args.owner.now c.args.task.now c.args.moved c.args.halt c.requires.task c.in-Ok.went t in
+    subst IsSome (sym is.attempt) refl
+
+pub returns-in-Ok : goal.returns-in-Ok
+returns-in-Ok c =
+    let old = shared_of c.args.kept.now in
+    let mid = shared_of c.take_step.new.kept in
+    let going = ap is_going c.requires.going in
+    let t = taken old old mid c.args.owner.now c.args.task.now c.args.moved c.args.halt c.requires.task c.in-Ok.went (same-itself old) c.in-Ok.ensures.step (ap shared_of c.in-Ok.ensures.others) in
+    taken-came old mid c.requires.stands going c.args.owner.now c.args.task.now c.args.moved c.args.halt c.requires.task c.in-Ok.went t (shared_of c.after_step.new.kept) c.after_step.result c.after_step.ensures

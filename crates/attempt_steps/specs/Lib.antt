@@ -1,0 +1,5 @@
+pub mod Deciding
+pub mod Gone
+pub mod Live
+pub mod Tasks
+pub mod Undoing

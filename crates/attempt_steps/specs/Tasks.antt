@@ -1,0 +1,155 @@
+-- Tasks of attempts that take a step.
+use Rattle.std.specs.Prelude.{◌≡◌, ◌⊎◌, ℕ, Err, None, Ok, Option, Result, Some, is_some, true, ⊤}
+use Rattle.std.specs.declared.alloc.AllocError.{AllocError}
+use Rattle.eval_step.specs.Evaluation.{Evaluation, IsAsk, IsAsking, IsOf, IsSame}
+use Rattle.world_steps.specs.declared.kept.Kept.{Kept}
+use Rattle.attempt_steps.specs.declared.tasks.Child.{Child}
+use Rattle.attempt_steps.specs.Deciding.{HasDecided, IsTrying}
+use Rattle.attempt_steps.specs.Gone.{GoneEnd, IsFree}
+use Rattle.world_steps.specs.Kept.{IsSameBut}
+use Rattle.ref_store.specs.declared.version.Version.{Version}
+use Rattle.ref_store.specs.Store.{versions_of}
+use Rattle.ref_store.specs.Version.{newest}
+use Rattle.serial_model.specs.declared.halt.Halt.{Halt}
+use Rattle.shared_world.specs.declared.given.Given.{Given}
+use Rattle.shared_world.specs.declared.given.Given.TheVariants as given
+use Rattle.shared_world.specs.Gave.{GaveTask, gone_with}
+use Rattle.shared_world.specs.Returned.{halt_of}
+use Rattle.shared_world.specs.rows.Pieces.{ClaimsEnd}
+use Rattle.shared_world.specs.rows.Tasks.{AfterStep, Forked, IsMarkedTask, Missing}
+use Rattle.shared_world.specs.Shared.{Shared}
+use Rattle.shared_world.specs.Stands.{Stands}
+use Rattle.task_fork_join.specs.Attempt.{Attempt, end_at, machine_of}
+use Rattle.task_fork_join.specs.declared.stepped.Stepped.{Stepped}
+use Rattle.task_fork_join.specs.Step.{IsStep}
+use Rattle.unit_table.specs.Board.{Board, HasPlace, IsUnlent, lent_to, piece_at, unit_at}
+use Rattle.unit_table.specs.declared.mark.Mark.{Mark}
+use Rattle.unit_table.specs.declared.mark.Mark.TheVariants as mark
+use Rattle.unit_table.specs.declared.mark.WaitOn.TheVariants as wait
+use Rattle.unit_table.specs.declared.mark.Work.TheVariants as work
+use Rattle.unit_table.specs.declared.piece.Piece.TheVariants as piece
+use Rattle.unit_table.specs.declared.unit.Unit.{Unit}
+use Rattle.value_core.specs.declared.ticket.Ticket.{Ticket}
+use Rattle.value_core.specs.declared.value.Value.{Value}
+use Rattle.value_core.specs.Named.{Name, Named, named, with_named}
+use Rattle.value_core.specs.Placed.{HasPlace as HasOwnerPlace}
+
+-- a task of the attempt of a unit that no claim is on
+pub record IsTaskIn (s : Shared) (owner task : Name) (tree : Attempt) : Type 0 where
+  pub mark : Mark
+  pub there : piece_at s.board task ≡ Some (piece.Task mark)
+  pub unit : Unit
+  pub unit_there : unit_at s.board owner ≡ Some unit
+  pub attempt : named owner s.attempts ≡ Some tree
+  pub among : is_some (named task tree.tasks) ≡ true
+  pub free : IsFree s.board owner
+
+-- such a task whose machine was moved to that halt
+pub record IsTaskOf (s : Shared) (owner task : Name) (moved : Evaluation) (h : Halt) : Type 0 where
+  pub tree : Attempt
+  pub task_in : IsTaskIn s owner task tree
+  pub of : named task s.owners ≡ Some owner
+  pub machine : Evaluation
+  pub kept : machine_of tree task ≡ Some machine
+  pub same : IsSame machine moved
+  pub program : IsOf s.setup.program moved
+  pub halts_so : halt_of s.setup.program machine ≡ h
+  pub asking : IsAsk h → IsAsking moved
+
+-- there is room for the child, and nothing stands under its name
+pub record IsRoomyChild (k : Kept) (child : Child) : Type 0 where
+  pub none : piece_at k.units child.name ≡ None
+  pub place : HasPlace k.units child.name
+  pub owner_place : HasOwnerPlace child.name k.owners
+
+-- there is room for the child, where there is one, in an attempt of that unit
+pub record IsRoomFor (k : Kept) (owner : Name) (child : Child) : Type 0 where
+  pub owner_is : child.owner ≡ owner
+  pub roomy : IsRoomyChild k child
+
+abbrev pub HasRoomFor : Kept → Name → Option Child → Type 0
+HasRoomFor k owner None = ⊤
+HasRoomFor k owner (Some child) = IsRoomFor k owner child
+
+-- the attempt of that unit has taken a step, on these refs
+pub record HasStepped (refs : Name → Option Value) (owner task : Name) (moved : Evaluation) (outer : Option Value) (h : Halt) (tree : Attempt) (old new : Named Attempt) (went : Stepped) : Type 0 where
+  pub after : Attempt
+  pub put : new ≡ with_named old owner after
+  pub step : IsStep refs task moved outer h tree after went
+
+-- For want of memory the history, the refs, the bytes and the end stay, and so does every other piece; the piece is as it was, or
+-- it is a task that is ready to settle; and no claim ends but one on it.
+pub record IsWanting (old : Shared) (name : Name) (new : Shared) : Type 0 where
+  pub stands : Stands new
+  pub here : (piece_at new.board name ≡ piece_at old.board name) ⊎ (piece_at new.board name ≡ Some (piece.Task (mark.Ready work.Settle)))
+  pub others : (other : Name) → (other ≡ name → ⊥) → piece_at new.board other ≡ piece_at old.board other
+  pub claims : (ticket : Ticket) → (lent_to old.board ticket ≡ Some name → ⊥) → lent_to new.board ticket ≡ lent_to old.board ticket
+  pub rest : new ≡ record old { attempts = new.attempts; board = new.board }
+
+-- a task stands under the name
+pub record IsTaskAt (b : Board) (task : Name) : Type 0 where
+  pub mark : Mark
+  pub there : piece_at b task ≡ Some (piece.Task mark)
+
+-- a task of an attempt of that unit, on which no claim is
+pub record IsOwned (s : Shared) (task owner : Name) : Type 0 where
+  pub at : IsTaskAt s.board task
+  pub of : named task s.owners ≡ Some owner
+  pub trying : IsTrying s owner
+
+-- the task has that mark, and no claim is on it
+pub record TaskMarked (old : Shared) (task : Name) (m : Mark) (new : Shared) : Type 0 where
+  pub marked : IsMarkedTask old task m new
+  pub unlent : IsUnlent task old.board new.board
+
+-- the child is there, and the task goes on; or for want of memory nothing changes
+pub record HasForkedTask (old : Shared) (owner task child : Name) (new : Shared) (found : Given) : Type 0 where
+  pub found_is : found ≡ given.Local
+  pub forked : Forked old owner task child new
+  pub unlent : IsUnlent task old.board new.board
+
+abbrev pub ForksTask : Shared → Name → Name → Name → Shared → Result Given AllocError → Type 0
+ForksTask old owner task child new (Ok found) = HasForkedTask old owner task child new found
+ForksTask old owner task child new (Err e) = IsSameBut old new
+
+-- the task waits for the finish of that one; or for want of memory nothing changes
+pub record IsWaitingTask (old : Shared) (task future : Name) (new : Shared) (found : Given) : Type 0 where
+  pub found_is : found ≡ given.Waiting (wait.Finish future)
+  pub marked : TaskMarked old task (mark.Waiting (wait.Finish future)) new
+
+abbrev pub TaskWaits : Shared → Name → Name → Shared → Result Given AllocError → Type 0
+TaskWaits old task future new (Ok found) = IsWaitingTask old task future new found
+TaskWaits old task future new (Err e) = IsSameBut old new
+
+-- the number of the version, where there is one
+abbrev pub IfNewest : Option Version → ℕ → Type 0
+IfNewest None number = ⊥
+IfNewest (Some version) number = number ≡ version.number
+
+-- the attempt is undone for a ref that its snapshot does not have; or for want of memory nothing changes
+pub record HasMissed (old : Shared) (owner ref : Name) (new : Shared) (found : Given) : Type 0 where
+  pub row : (x : Unit) (tree : Attempt) → unit_at old.board owner ≡ Some x → named owner old.attempts ≡ Some tree → Missing old owner x tree ref (newest (versions_of old.versions ref)) found new
+  pub claims : GoneEnd old new
+
+abbrev pub MissesOr : Shared → Name → Name → Shared → Result Given AllocError → Type 0
+MissesOr old owner ref new (Ok found) = HasMissed old owner ref new found
+MissesOr old owner ref new (Err e) = IsSameBut old new
+
+-- what comes of an attempt whose root is at its end; for want of memory the task is ready to settle
+abbrev pub DecidedOrWaits : Shared → Name → Name → Shared → Result Given AllocError → Type 0
+DecidedOrWaits old owner task new (Ok found) = HasDecided old owner new found
+DecidedOrWaits old owner task new (Err e) = IsWanting old task new
+
+-- what comes of a task that has taken a step
+pub record HasCome (mid : Shared) (owner task : Name) (went : Stepped) (new : Shared) (found : Given) : Type 0 where
+  pub row : (x : Unit) (tree : Attempt) → unit_at mid.board owner ≡ Some x → named owner mid.attempts ≡ Some tree → AfterStep mid owner x task tree went (end_at tree) found new
+  pub claims : ClaimsEnd (gone_with mid.board new.board task) mid new
+
+abbrev pub ComesAfter : Shared → Name → Name → Stepped → Shared → Result Given AllocError → Type 0
+ComesAfter mid owner task went new (Ok found) = HasCome mid owner task went new found
+ComesAfter mid owner task went new (Err e) = IsWanting mid task new
+
+-- what a task comes to
+abbrev pub TaskCame : Shared → Name → Shared → Result Given AllocError → Type 0
+TaskCame old task new (Ok found) = GaveTask old task found new
+TaskCame old task new (Err e) = IsWanting old task new

@@ -1,0 +1,368 @@
+// How the tasks of attempts take steps.
+ghost use Rattle.std.specs.Prelude.{◌≡◌, IfOk, IfSome, None, OnErr, Some, false, is_some};
+ghost use Rattle.std.specs.Option.{option_copied, IsSome};
+ghost use Rattle.world_steps.specs.Kept.{shared_of, IsSameBut};
+ghost use Rattle.attempt_steps.specs.Deciding.{IsTrying};
+ghost use Rattle.attempt_steps.specs.Tasks.{ComesAfter, DecidedOrWaits, ForksTask, HasForkedTask, HasRoomFor, HasStepped, IfNewest, IsRoomyChild, IsTaskAt, IsTaskIn, IsTaskOf, IsOwned, MissesOr, TaskCame, TaskMarked, TaskWaits};
+ghost use Rattle.ref_store.specs.Store.{versions_of};
+ghost use Rattle.ref_store.specs.Version.{newest};
+ghost use Rattle.shared_world.specs.rows.Tasks.{outer_of};
+ghost use Rattle.shared_world.specs.Shared.{kept_machine};
+ghost use Rattle.shared_world.specs.Stands.{Stands};
+ghost use Rattle.task_fork_join.specs.Attempt.{IsKept, end_at, next_made_at};
+ghost use Rattle.task_fork_join.specs.Step.{HaltsAt};
+ghost use Rattle.txn_snapshot.specs.SnapshotAnswer.{snapshot_of};
+ghost use Rattle.unit_table.specs.Board.{CanWait};
+ghost use Rattle.unit_table.specs.Piece.{says_dropped};
+ghost use Rattle.value_core.specs.Named.{named};
+
+use crate::deciding::decide;
+use crate::undoing::abort;
+use eval_step::Machine;
+use ref_store::Store;
+use serial_model::{Halt, Request};
+use shared_world::Given;
+use std::alloc::{AllocError, Global};
+use std::collections::BTreeMap;
+use task_fork_join::{Stepped, Tree};
+use unit_table::{Mark, Units, WaitOn, Work};
+use value_core::name_map::find;
+use value_core::{Name, Value};
+use world_steps::{Kept, add_task, value_of};
+
+/// A child that is forked, for which there is room, and the unit whose attempt it is of.
+#[derive(Drop)]
+pub(crate) struct Child {
+    pub(crate) name: Name,
+    pub(crate) owner: Name,
+}
+
+/// The task of the unit's attempt, whose machine was moved to that halt, takes a step.
+pub fn step_task(
+    kept: &mut Kept,
+    alloc: Global,
+    owner: &Name,
+    task: &Name,
+    moved: Machine,
+    halt: Halt,
+) -> Result<Given, AllocError>
+    requires stands { Stands (shared_of kept.old) }
+    requires going { kept.old.end ≡ None }
+    requires task { IsTaskOf (shared_of kept.old) owner.now task.now moved halt }
+    ensures { TaskCame (shared_of kept.old) task.now (shared_of kept.new) result }
+{
+    match room_for_child(kept, alloc, owner, task, &halt) {
+        Ok(child) => step_with(kept, alloc, owner, task, moved, halt, child),
+        Err(error) => {
+            drop_moved(moved, halt);
+            Err(error)
+        }
+    }
+}
+
+/// What a task comes to that has ended, where the root of its attempt has.
+pub fn settle_task(
+    kept: &mut Kept,
+    alloc: Global,
+    owner: &Name,
+    task: &Name,
+) -> Result<Given, AllocError>
+    requires stands { Stands (shared_of kept.old) }
+    requires going { kept.old.end ≡ None }
+    requires none { kept_machine (shared_of kept.old) task.now ≡ None }
+    requires owned { IsOwned (shared_of kept.old) task.now owner.now }
+    ensures { TaskCame (shared_of kept.old) task.now (shared_of kept.new) result }
+{
+    let _next = next_of_task(kept, alloc, owner, task)?;
+    if has_ended(kept, owner) {
+        decide_or_wait(kept, alloc, owner, task)
+    } else {
+        Err(AllocError)
+    }
+}
+
+/// The same, where there is room for the child that the task forks.
+fn step_with(
+    kept: &mut Kept,
+    alloc: Global,
+    owner: &Name,
+    task: &Name,
+    moved: Machine,
+    halt: Halt,
+    child: Option<Child>,
+) -> Result<Given, AllocError>
+    requires stands { Stands (shared_of kept.old) }
+    requires going { kept.old.end ≡ None }
+    requires task { IsTaskOf (shared_of kept.old) owner.now task.now moved halt }
+    requires room { HasRoomFor kept.old owner.now child }
+    ensures { TaskCame (shared_of kept.old) task.now (shared_of kept.new) result }
+{
+    match take_step(kept, alloc, owner, task, moved, halt) {
+        Ok(went) => after_step(kept, alloc, owner, task, child, went),
+        Err(error) => {
+            drop_child(child);
+            Err(error)
+        }
+    }
+}
+
+/// Room for the child that the task asks to fork, where it does.
+fn room_for_child(
+    kept: &mut Kept,
+    alloc: Global,
+    owner: &Name,
+    task: &Name,
+    halt: &Halt,
+) -> Result<Option<Child>, AllocError>
+    ensures same { IsSameBut (shared_of kept.old) (shared_of kept.new) }
+    ensures others { kept.new ≡ record kept.old { units = kept.new.units; owners = kept.new.owners } }
+    ensures room { IfOk result (HasRoomFor kept.new owner.now) }
+{
+    match halt {
+        Halt::Ask(Request::Fork(_, _), _) => child_room(kept, alloc, owner, task),
+        _ => Ok(None),
+    }
+}
+
+/// Room for what the task makes next, under whose name nothing stands.
+fn child_room(
+    kept: &mut Kept,
+    alloc: Global,
+    owner: &Name,
+    task: &Name,
+) -> Result<Option<Child>, AllocError>
+    ensures same { IsSameBut (shared_of kept.old) (shared_of kept.new) }
+    ensures others { kept.new ≡ record kept.old { units = kept.new.units; owners = kept.new.owners } }
+    ensures room { IfOk result (HasRoomFor kept.new owner.now) }
+{
+    let name = next_of_task(kept, alloc, owner, task)?;
+    kept.reserve_new(alloc, &name)?;
+    kept.owners.prepare(name.copy(alloc)?)?;
+    let owner = owner.copy(alloc)?;
+    Ok(Some(Child { name, owner }))
+}
+
+/// The name of what the task makes next. A task that is nowhere, of which no claim knows, is taken for want of memory.
+fn next_of_task(kept: &Kept, alloc: Global, owner: &Name, task: &Name) -> Result<Name, AllocError>
+    ensures { IfOk result (λ name. IfSome (named owner.now kept.now.attempts.entries) (λ tree. next_made_at tree task.now ≡ Some name)) }
+{
+    match find(&kept.attempts, owner) {
+        Some(tree) => tree.next_made(alloc, task)?.ok_or(AllocError),
+        None => Err(AllocError),
+    }
+}
+
+/// The attempt takes the step.
+fn take_step(
+    kept: &mut Kept,
+    alloc: Global,
+    owner: &Name,
+    task: &Name,
+    moved: Machine,
+    halt: Halt,
+) -> Result<Stepped, AllocError>
+    requires task { IsTaskOf (shared_of kept.old) owner.now task.now moved halt }
+    ensures step { IfOk result (λ went. IfSome (named owner.now kept.old.attempts.entries) (λ tree.
+        HasStepped (snapshot_of kept.old.store.versions tree.snapshot) owner.now task.now moved (outer_of kept.old.units halt) halt tree kept.old.attempts.entries kept.new.attempts.entries went)) }
+    ensures others { kept.new ≡ record kept.old { attempts = kept.new.attempts } }
+    ensures same { OnErr result (kept.new.attempts.entries ≡ kept.old.attempts.entries) }
+{
+    let outer = outer_value(&kept.units, &halt);
+    step_in(
+        &mut kept.attempts,
+        alloc,
+        owner,
+        task,
+        moved,
+        halt,
+        &kept.store,
+        outer,
+    )
+}
+
+/// What comes of the step of the task.
+fn after_step(
+    kept: &mut Kept,
+    alloc: Global,
+    owner: &Name,
+    task: &Name,
+    child: Option<Child>,
+    went: Stepped,
+) -> Result<Given, AllocError>
+    requires stands { Stands (shared_of kept.old) }
+    requires going { kept.old.end ≡ None }
+    requires at { IfSome (named owner.now kept.old.attempts.entries) (IsTaskIn (shared_of kept.old) owner.now task.now) }
+    requires there { IsSome (named owner.now kept.old.attempts.entries) }
+    requires room { HasRoomFor kept.old owner.now child }
+    ensures { ComesAfter (shared_of kept.old) owner.now task.now went (shared_of kept.new) result }
+{
+    if has_ended(kept, owner) {
+        return decide_or_wait(kept, alloc, owner, task);
+    }
+    match went {
+        Stepped::Now => {
+            mark_task(kept, task, Mark::Ready(Work::Eval));
+            Ok(Given::Local)
+        }
+        Stepped::Forked(future) => add_forked(kept, alloc, owner, task, future, child),
+        Stepped::WaitJoin(future) => wait_for_task(kept, alloc, task, future),
+        Stepped::NotInSnapshot(name) => miss(kept, alloc, owner, name),
+        Stepped::Finished => {
+            mark_task(kept, task, Mark::Finished(Value::Nil));
+            Ok(Given::Local)
+        }
+    }
+}
+
+/// Whether the root of the unit's attempt is at its end.
+fn has_ended(kept: &Kept, owner: &Name) -> bool
+    requires there { IsSome (named owner.now kept.now.attempts.entries) }
+    ensures { IfSome (named owner.now kept.now.attempts.entries) (λ tree. result ≡ is_some (end_at tree)) }
+{
+    match find(&kept.attempts, owner) {
+        Some(tree) => tree.outcome().is_some(),
+        None => unreachable!(),
+    }
+}
+
+/// What comes of the attempt, whose root is at its end. For want of memory the task is ready to settle.
+fn decide_or_wait(
+    kept: &mut Kept,
+    alloc: Global,
+    owner: &Name,
+    task: &Name,
+) -> Result<Given, AllocError>
+    requires stands { Stands (shared_of kept.old) }
+    requires going { kept.old.end ≡ None }
+    requires at { IfSome (named owner.now kept.old.attempts.entries) (IsTaskIn (shared_of kept.old) owner.now task.now) }
+    requires there { IsSome (named owner.now kept.old.attempts.entries) }
+    ensures { DecidedOrWaits (shared_of kept.old) owner.now task.now (shared_of kept.new) result }
+{
+    let decided = decide(kept, alloc, owner);
+    if decided.is_err() {
+        mark_task(kept, task, Mark::Ready(Work::Settle));
+    }
+    decided
+}
+
+/// The task has that mark. It takes no memory.
+fn mark_task(kept: &mut Kept, task: &Name, mark: Mark)
+    requires there { IsTaskAt kept.old.units task.now }
+    requires stays { says_dropped mark ≡ false }
+    requires can_wait { CanWait kept.old.units mark }
+    ensures { TaskMarked (shared_of kept.old) task.now mark (shared_of kept.new) }
+{
+    kept.units.mark(task, mark);
+}
+
+/// The child that the task forked can go on, and the task can. Where there is no room for a child of that future, which no
+/// run forks, it is taken for want of memory.
+fn add_forked(
+    kept: &mut Kept,
+    alloc: Global,
+    owner: &Name,
+    task: &Name,
+    future: Name,
+    child: Option<Child>,
+) -> Result<Given, AllocError>
+    requires there { IsTaskAt kept.old.units task.now }
+    requires room { HasRoomFor kept.old owner.now child }
+    ensures { ForksTask (shared_of kept.old) owner.now task.now future (shared_of kept.new) result }
+{
+    match child {
+        Some(child) if child.name == future => Ok(add_child_task(kept, alloc, task, child)),
+        _ => Err(AllocError),
+    }
+}
+
+/// The child can go on, and the task that forked it can. It takes no memory.
+fn add_child_task(kept: &mut Kept, alloc: Global, task: &Name, child: Child) -> Given
+    requires there { IsTaskAt kept.old.units task.now }
+    requires room { IsRoomyChild kept.old child }
+    ensures { HasForkedTask (shared_of kept.old) child.owner task.now child.name (shared_of kept.new) result }
+{
+    let Child { name, owner } = child;
+    add_task(&mut kept.units, alloc, &name);
+    kept.owners.fill(&name, owner);
+    mark_task(kept, task, Mark::Ready(Work::Eval));
+    Given::Local
+}
+
+/// The task waits for the finish of that one. Where nothing stands under that name, of which no run knows, it is taken for
+/// want of memory.
+fn wait_for_task(
+    kept: &mut Kept,
+    alloc: Global,
+    task: &Name,
+    future: Name,
+) -> Result<Given, AllocError>
+    requires there { IsTaskAt kept.old.units task.now }
+    ensures { TaskWaits (shared_of kept.old) task.now future (shared_of kept.new) result }
+{
+    let told = future.copy(alloc)?;
+    kept.check_place(&future)?;
+    mark_task(kept, task, Mark::Waiting(WaitOn::Finish(future)));
+    Ok(Given::Waiting(WaitOn::Finish(told)))
+}
+
+/// The attempt is undone, since the store has a version of the ref that the snapshot does not have. Where it has none, of
+/// which no run knows, it is taken for want of memory.
+fn miss(kept: &mut Kept, alloc: Global, owner: &Name, name: Name) -> Result<Given, AllocError>
+    requires stands { Stands (shared_of kept.old) }
+    requires going { kept.old.end ≡ None }
+    requires attempt { IsTrying (shared_of kept.old) owner.now }
+    ensures { MissesOr (shared_of kept.old) owner.now name (shared_of kept.new) result }
+{
+    let number = newest_number(kept, &name)?;
+    abort(kept, alloc, owner, name, number)
+}
+
+/// The number of the newest version of the ref.
+fn newest_number(kept: &Kept, name: &Name) -> Result<u64, AllocError>
+    ensures { IfOk result (λ number. IfNewest (newest (versions_of kept.now.store.versions name.now)) number) }
+{
+    match kept.store.newest(name) {
+        Some(version) => Ok(version.number),
+        None => Err(AllocError),
+    }
+}
+
+/// The value of the plain task that is asked for, where it has one.
+fn outer_value<'a>(units: &'a Units, halt: &Halt) -> Option<&'a Value>
+    ensures { option_copied result ≡ outer_of units.now halt.now }
+{
+    match halt {
+        Halt::Ask(Request::Join(future), _) => value_of(units, future),
+        _ => None,
+    }
+}
+
+/// The attempt of the unit takes the step of its task.
+fn step_in(
+    attempts: &mut BTreeMap<Name, Tree>,
+    alloc: Global,
+    owner: &Name,
+    task: &Name,
+    moved: Machine,
+    halt: Halt,
+    store: &Store,
+    outer: Option<&Value>,
+) -> Result<Stepped, AllocError>
+    requires there { IsSome (named owner.now attempts.old.entries) }
+    requires kept { IfSome (named owner.now attempts.old.entries) (λ tree. IsKept task.now moved tree.tasks) }
+    requires halts { HaltsAt moved halt }
+    ensures step { IfOk result (λ went. IfSome (named owner.now attempts.old.entries) (λ tree.
+        HasStepped (snapshot_of store.now.versions tree.snapshot) owner.now task.now moved (option_copied outer.entry) halt tree attempts.old.entries attempts.new.entries went)) }
+    ensures same { OnErr result (attempts.new.entries ≡ attempts.old.entries) }
+{
+    match attempts.get_mut(owner) {
+        Some(tree) => tree.step(alloc, task, moved, halt, store, outer),
+        None => unreachable!(),
+    }
+}
+
+/// Drops a machine that was moved, and where it halts.
+fn drop_moved(_moved: Machine, _halt: Halt) {}
+
+/// Drops a child that is not forked.
+fn drop_child(_child: Option<Child>) {}

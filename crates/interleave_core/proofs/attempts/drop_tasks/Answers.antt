@@ -1,5 +1,0 @@
-use Rattle.interleave_core.proofs.Gone.{one_gone}
-use Rattle.interleave_core.proofs.attempts.drop_tasks.Goals as goal
-
-pub loop-name-preserved : goal.loop-name-preserved
-loop-name-preserved c = one_gone c.args.names c.loop-name.names c.next.new.self c.in-Some.name c.args.units.now c.loop-name.units c.drop_task.new.units c.in-Some.ensures.some c.loop-name.invariant c.drop_task.ensures

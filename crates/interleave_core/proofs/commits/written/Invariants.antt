@@ -1,6 +1,0 @@
-use Rattle.std.proofs.Common.{◌≡◌}
-use Rattle.value_core.specs.Named.{over}
-use Rattle.interleave_core.proofs.commits.written.Given as goal
-
-abbrev pub invariant-loop-name : goal.invariant-loop-name
-invariant-loop-name l = over l.name-iterator l.writes.items ≡ l.log.log.writes

@@ -1,0 +1,13 @@
+use Rattle.std.proofs.Common.{sym, subst}
+use Rattle.interleave_core.proofs.Ends.{cleared-stands, over-none-tried}
+use Rattle.interleave_core.proofs.finishing.finish.Goals as goal
+use Rattle.world_steps.specs.Kept.{shared_of}
+use Rattle.shared_world.specs.Stands.{Stands}
+use Rattle.task_fork_join.specs.Attempt.{Attempt}
+use Rattle.value_core.specs.Named.{Named}
+
+pub returns-clause-stands : goal.returns-clause-stands
+returns-clause-stands c =
+    let mid = shared_of c.settle_all.new.kept in
+    subst (λ (es : Named Attempt). Stands (record mid { attempts = es })) (sym c.clear_attempts.ensures)
+    (cleared-stands mid c.settle_all.ensures.goes.stands (over-none-tried mid c.settle_all.ensures.goes.stands c.in_ok-end.end c.in_ok-end.ensures.end))

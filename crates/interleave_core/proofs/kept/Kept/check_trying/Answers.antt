@@ -1,6 +1,0 @@
-use Rattle.interleave_core.proofs.Waits.{trying-so}
-use Rattle.interleave_core.specs.Kept.{shared_of}
-use Rattle.interleave_core.proofs.kept.Kept.check_trying.Goals as goal
-
-pub returns : goal.returns
-returns c = trying-so (shared_of c.args.self.now) c.args.owner.now c.in_ok-check_waiting.ensures c.in_ok-check_attempt.ensures c.lent_are_ready.ensures

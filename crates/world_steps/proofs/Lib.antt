@@ -1,0 +1,3 @@
+pub mod Forking
+pub mod Settling
+pub mod Trying
