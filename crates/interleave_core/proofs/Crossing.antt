@@ -4,7 +4,7 @@ use Rattle.std.proofs.MapsCrossing as maps
 use Rattle.core_syntax.proofs.program.Program.TheSendSync as program
 use Rattle.eval_step.proofs.Crossing.{machine_send}
 use Rattle.interleave_core.specs.contracts.world.World as world
-use Rattle.piece_table.specs.contracts.piece_table.PieceTable as table
+use Rattle.piece_table.proofs.piece_table.PieceTable.TheSendSync as table
 use Rattle.ref_store.specs.contracts.store.Store as store
 use Rattle.ref_store.specs.contracts.version.Version as version
 use Rattle.ref_store.specs.contracts.writes.Writes as writes
@@ -15,7 +15,7 @@ use Rattle.serial_model.specs.contracts.actor_state.ActorState as actor_state
 use Rattle.serial_model.specs.contracts.effect.Effect as effect
 use Rattle.serial_model.specs.contracts.effect.What as what
 use Rattle.serial_model.specs.contracts.end.End as end
-use Rattle.slot_set.specs.contracts.slot_set.SlotSet as slots
+use Rattle.slot_set.proofs.slot_set.SlotSet.TheSendSync as slots
 use Rattle.task_fork_join.specs.contracts.task.Stage as stage
 use Rattle.task_fork_join.specs.contracts.task.Task as task
 use Rattle.task_fork_join.specs.contracts.task_end.TaskEnd as task_end
@@ -33,7 +33,7 @@ use Rattle.unit_table.specs.contracts.units.Units as units
 use Rattle.value_core.proofs.Crossing.{name_send, value_send, values_send}
 use Rattle.value_core.specs.contracts.name.Name as name
 use Rattle.value_core.specs.contracts.places.Places as owners
-use Rattle.wait_lists.specs.contracts.wait_lists.WaitLists as waits
+use Rattle.wait_lists.proofs.wait_lists.WaitLists.TheSendSync as waits
 use Rattle.world_steps.specs.contracts.kept.Kept as kept
 
 mark_send : IsSend mark.the_row
@@ -51,14 +51,11 @@ piece_send = search (unit_send, mark_send, actor_send, fields) depth 60 fits 200
 record_send : IsSend record_row.the_row
 record_send = search (piece_send, fields) depth 60 fits 20000
 
-table_send : IsSend table.the_row
-table_send = search fields depth 60 fits 20000
-
 places_send : IsSend places.the_row
-places_send = search (name_send, record_send, table_send, maps.crosses, fields) depth 60 fits 20000
+places_send = search (name_send, record_send, table.the_send, waits.the_send, maps.crosses, fields) depth 60 fits 20000
 
 units_send : IsSend units.the_row
-units_send = search (places_send, fields) depth 60 fits 20000
+units_send = search (places_send, slots.the_send, fields) depth 60 fits 20000
 
 version_send : IsSend version.the_row
 version_send = search (value_send, fields) depth 60 fits 20000
