@@ -1,5 +1,5 @@
 -- What was written while a run goes on.
-use Rattle.std.specs.Prelude.{◌≡◌, ◌≤◌, ℕ, List, Option, Result, Ok, Err, Some, drop, length, take}
+use Rattle.std.specs.Prelude.{◌≡◌, ◌+◌, ◌≤◌, ⊤, ℕ, List, Option, Result, Ok, Err, Some, drop, length, take}
 use Rattle.std.specs.Io.KnownBytes.{append_known}
 use mathlib.Core.List.{IsPrefix}
 use Rattle.core_syntax.specs.Table.{Table}
@@ -53,7 +53,7 @@ pub record IsTakenWhole (bytes : List ℕ) (total : ℕ) (old new : Option (List
   pub counted : written ≡ total
 
 -- a failed write raises the count of faults, and every other answer leaves it as it was
-abbrev pub CountsLive : Result (⊤) LiveNo → ℕ → ℕ → Type 0
+abbrev pub CountsLive : Result ⊤ LiveNo → ℕ → ℕ → Type 0
 CountsLive (Ok x) before now = now ≡ before
 CountsLive (Err no.Failed) before now = Rose before now
 CountsLive (Err no.Memory) before now = now ≡ before

@@ -35,7 +35,7 @@ pub(crate) fn bytes_behind<R: Wait>(
     let world = turn.value();
     world.stands();
     let total = world.output().len();
-    let bytes = behind(alloc, world.output(), written);
+    let bytes = rest_of(alloc, world.output(), written);
     Behind {
         seat: lock.leave(turn),
         total,
@@ -44,7 +44,7 @@ pub(crate) fn bytes_behind<R: Wait>(
 }
 
 /// The bytes behind the first so many.
-fn behind(alloc: Global, bytes: &[u8], from: u64) -> Result<Vec<u8>, AllocError>
+fn rest_of(alloc: Global, bytes: &[u8], from: u64) -> Result<Vec<u8>, AllocError>
     ensures { IfOk result (λ v. v.items ≡ drop from bytes.now) }
 {
     match bytes.get(from as usize..) {

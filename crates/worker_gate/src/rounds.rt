@@ -37,7 +37,7 @@ pub(crate) struct Round {
 
 /// A round: a claim in one hold, its evaluation outside of the lock, and its return in another hold. Where nothing is ready
 /// the thread yields.
-pub(crate) fn round<R: Wait, G: Gate>(
+pub(crate) fn do_round<R: Wait, G: Gate>(
     rt: &R,
     alloc: Global,
     lock: &WorldLock<World>,

@@ -6,7 +6,7 @@ ghost use Rattle.world_lock.specs.Known.{IsSeatOf};
 
 use crate::between::Between;
 use crate::gate::Gate;
-use crate::rounds::{Round, Went, round};
+use crate::rounds::{Round, Went, do_round};
 use crate::stop::{Stop, Worked};
 use core_syntax::Program;
 use interleave_core::World;
@@ -43,7 +43,7 @@ pub fn work<R: Wait, G: Gate, B: Between>(
     let mut mine = seat;
     let mut turn = 0u64;
     for _ in rt.forever() {
-        let Round { seat, went } = round(rt, alloc, lock, mine, program, worker, turn, gate);
+        let Round { seat, went } = do_round(rt, alloc, lock, mine, program, worker, turn, gate);
         match went {
             Went::Settled => mine = between.after(rt, alloc, lock, seat),
             Went::On => mine = seat,

@@ -10,3 +10,6 @@ value-world-requires-send-T g c κs = search (world_send, sendable) depth 20
 
 pub leave-requires-send-T : goal.leave-requires-send-T
 leave-requires-send-T g c κs = search (world_send, sendable) depth 20
+
+pub leave-requires-clause-later : goal.leave-requires-clause-later
+leave-requires-clause-later g c κs within = ?
