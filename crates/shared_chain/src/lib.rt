@@ -1,0 +1,6 @@
+//! Lists whose copies share all they hold.
+#![tactic(auto)]
+
+mod chain;
+
+pub use chain::{Chain, Link};
