@@ -6,10 +6,9 @@ use crate::control::Control;
 use crate::item::Item;
 use crate::stack::Stack;
 use crate::walk::Walk;
+use answer_runs::Answers;
 use serial_model::Answer;
 use std::alloc::{AllocError, Global};
-use value_core::Seq;
-use value_core::lists::add;
 
 /// An equal walk. Of a failed one there is none.
 pub fn copy_walk(alloc: Global, walk: &Walk) -> Result<Walk, AllocError>
@@ -72,26 +71,14 @@ fn copy_item(alloc: Global, item: &Item) -> Result<Item, AllocError>
     }
 }
 
-/// Equal answers.
-pub fn copy_answers(alloc: Global, answers: &[Answer]) -> Result<Seq<Answer>, AllocError>
-    ensures { IfOk result (λ copied. copied ≡ answers.now) }
-{
-    let mut copied = Seq::new(alloc);
-    copied.reserve(answers.len())?;
-    for answer in answers {
-        add(&mut copied, answer.copy(alloc)?)?;
-    }
-    Ok(copied)
-}
-
 /// Appends an equal answer. For want of memory the answers stay.
 pub fn keep_answer(
     alloc: Global,
-    answers: &mut Seq<Answer>,
+    answers: &mut Answers,
     answer: &Answer,
 ) -> Result<(), AllocError>
     ensures ok { OnOk result (answers.new ≡ answers.old ++ answer.now ∷ []) }
     ensures err { OnErr result (answers.new ≡ answers.old) }
 {
-    add(answers, answer.copy(alloc)?)
+    answers.add(answer.copy(alloc)?)
 }
