@@ -1,7 +1,8 @@
 -- A machine may be moved into a thread.
 use denote.Param.Send.{IsSend}
 use Rattle.value_core.proofs.Crossing.{value_send, values_send}
-use Rattle.serial_model.proofs.Crossing.{fields, answer_send, halt_send}
+use Rattle.serial_model.proofs.Crossing.{fields, halt_send}
+use Rattle.answer_runs.proofs.Crossing.{answers_send}
 use Rattle.eval_step.specs.contracts.context.Context as context
 use Rattle.eval_step.specs.contracts.control.Control as control
 use Rattle.eval_step.specs.contracts.frame.Frame as frame
@@ -29,4 +30,4 @@ walk_send : IsSend walk.the_row
 walk_send = search (control_send, context_send, fields) depth 60 fits 20000
 
 pub machine_send : IsSend machine.the_row
-machine_send = search (walk_send, values_send, answer_send, fields) depth 60 fits 20000
+machine_send = search (walk_send, values_send, answers_send, fields) depth 60 fits 20000
