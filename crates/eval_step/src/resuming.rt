@@ -25,7 +25,8 @@ impl Context {
         requires { ItemsIn program.now self.old }
         ensures { IfOk result (Delivers program.now value self.old self.new) }
     {
-        match self.stack.pop() {
+        let first = self.stack.pop()?;
+        match first {
             Some(item) => self.resume(alloc, program, item, value),
             None => Ok(Control::Halted(Halt::Value(value.into_value()))),
         }

@@ -6,4 +6,4 @@ mod chunk;
 mod stack;
 
 pub use chain::{Chain, Link};
-pub use stack::Stack;
+pub use stack::SharedStack;

@@ -19,13 +19,13 @@ const CHUNK: usize = 32;
 
 /// A stack of which a copy copies a few items at its top, and shares all others. Contracts see the items, the last one
 /// pushed first.
-pub struct Stack<T> {
+pub struct SharedStack<T> {
     alloc: Global,
     own: Vec<T>,
     below: Chain<Chunk<T>>,
 }
 
-impl<T> Model for Stack<T> {
+impl<T> Model for SharedStack<T> {
     ghost use Rattle.std.specs.Prelude.{List, reverse, ◌++◌};
     ghost use Rattle.std.specs.Coded.{coded_list};
     ghost use Rattle.shared_chain.specs.Chunks.{joined};
@@ -37,9 +37,9 @@ impl<T> Model for Stack<T> {
     ghost view = { λ s. reverse s.own.items ++ joined s.below };
 }
 
-impl<T: Drop> Drop for Stack<T> {
+impl<T: Drop> Drop for SharedStack<T> {
     fn drop(self) {
-        let Stack {
+        let SharedStack {
             alloc: _,
             own: _own,
             below: _below,
@@ -47,12 +47,12 @@ impl<T: Drop> Drop for Stack<T> {
     }
 }
 
-impl<T: Copied> Stack<T> {
+impl<T: Copied> SharedStack<T> {
     /// The empty stack. It takes no memory.
     pub fn new(alloc: Global) -> Self
         ensures { result ≡ [] }
     {
-        Stack {
+        SharedStack {
             alloc,
             own: Vec::new(alloc),
             below: Chain::new(alloc),
@@ -63,7 +63,7 @@ impl<T: Copied> Stack<T> {
     pub fn copy(&self) -> Result<Self, AllocError>
         ensures { IfOk result (λ copied. copied ≡ self.now) }
     {
-        Ok(Stack {
+        Ok(SharedStack {
             alloc: self.alloc,
             own: copies(self.alloc, &self.own)?,
             below: self.below.copy()?,
