@@ -23,7 +23,7 @@ rest-starts run below =
 -- the answer and so many before it, and what is left behind them in the run
 pub rest-behind : (run : Bor Run) (passed more : ℕ) (below : Option (Bor (Link Run))) → more < run.now.before - passed
     → rest_back (Some (record { run = run; passed = passed; below = below }))
-      ≡ run_back run.now.counts_on (back run.now.counts_on passed run.now.last) more ++ rest_back (Some (record { run = run; passed = passed + more + 1; below = below }))
+    ≡ run_back run.now.counts_on (back run.now.counts_on passed run.now.last) more ++ rest_back (Some (record { run = run; passed = passed + more + 1; below = below }))
 rest-behind run passed more below less =
     let c = run.now.counts_on in
     let here = back c passed run.now.last in
@@ -36,7 +36,7 @@ rest-behind run passed more below less =
 -- the answer and all before it in the run, and those below
 pub rest-passed : (run : Bor Run) (passed more : ℕ) (below : Option (Bor (Link Run))) → run.now.before - passed ≡ more
     → rest_back (Some (record { run = run; passed = passed; below = below }))
-      ≡ run_back run.now.counts_on (back run.now.counts_on passed run.now.last) more ++ runs_back (from_link (option_copied below))
+    ≡ run_back run.now.counts_on (back run.now.counts_on passed run.now.last) more ++ runs_back (from_link (option_copied below))
 rest-passed run passed more below all =
     ap (λ n. run_back run.now.counts_on (back run.now.counts_on passed run.now.last) n ++ runs_back (from_link (option_copied below))) all
 

@@ -23,7 +23,7 @@ run_back-cut counts_on a (suc all) zero left is = ap (λ n. a ∷ run_back count
 run_back-cut counts_on a (suc all) (suc more) left is =
     ap (λ l. a ∷ l) (run_back-cut counts_on (back counts_on 1 a) all more left (omega (arith, is))
     ∙ ap (λ b. run_back counts_on (back counts_on 1 a) more ++ run_back counts_on b left)
-        (back-twice counts_on (more + 1) 1 a ∙ ap (λ n. back counts_on n a) (let next : 1 + (more + 1) ≡ suc more + 1 = omega arith in next)))
+    (back-twice counts_on (more + 1) 1 a ∙ ap (λ n. back counts_on n a) (let next : 1 + (more + 1) ≡ suc more + 1 = omega arith in next)))
 
 -- the same run, so far
 pub run_back-alike : (counts_on other : Bool) (a b : Answer) (n : ℕ) → counts_on ≡ other → a ≡ b → run_back counts_on a n ≡ run_back other b n

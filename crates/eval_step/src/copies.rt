@@ -68,11 +68,7 @@ fn copy_item(alloc: Global, item: &Item) -> Result<Item, AllocError>
 }
 
 /// Appends an equal answer. For want of memory the answers stay.
-pub fn keep_answer(
-    alloc: Global,
-    answers: &mut Answers,
-    answer: &Answer,
-) -> Result<(), AllocError>
+pub fn keep_answer(alloc: Global, answers: &mut Answers, answer: &Answer) -> Result<(), AllocError>
     ensures ok { OnOk result (answers.new ≡ answers.old ++ answer.now ∷ []) }
     ensures err { OnErr result (answers.new ≡ answers.old) }
 {

@@ -102,10 +102,7 @@ impl<T: Copied> SharedStack<T> {
 }
 
 // Shares the lower ones of the items.
-fn share_lower<T: Drop>(
-    own: &mut Vec<T>,
-    below: &mut Chain<Chunk<T>>,
-) -> Result<(), AllocError>
+fn share_lower<T: Drop>(own: &mut Vec<T>, below: &mut Chain<Chunk<T>>) -> Result<(), AllocError>
     requires { 32 ≤ length own.old.items }
     ensures { OnOk result (reverse own.new.items ++ joined below.new ≡ reverse own.old.items ++ joined below.old) }
 {

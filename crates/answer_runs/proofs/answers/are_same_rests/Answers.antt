@@ -12,9 +12,11 @@ returns-in_default-right c =
     (λ t. absurd (false≢true t), λ e. absurd (rest-some c.in-Some.one (sym (ap rest_back c.in-Some.is) ∙ c.loop-left.invariant.back e ∙ ap rest_back c.in_default-right.is)))
 
 pub returns-then-not-is_at_same : goal.returns-then-not-is_at_same
-returns-then-not-is_at_same c =
-    (λ t. absurd (false≢true t), λ e. subst IsTrue c.if-not-is_at_same.true
-        (c.is_at_same.ensures.1 (rest-same c.in-Some.one c.in-Some-right.other (sym (ap rest_back c.in-Some.is) ∙ c.loop-left.invariant.back e ∙ ap rest_back c.in-Some-right.is))))
+returns-then-not-is_at_same c = (
+  λ t. absurd (false≢true t),
+  λ e. subst IsTrue c.if-not-is_at_same.true
+      (c.is_at_same.ensures.1 (rest-same c.in-Some.one c.in-Some-right.other (sym (ap rest_back c.in-Some.is) ∙ c.loop-left.invariant.back e ∙ ap rest_back c.in-Some-right.is))),
+)
 
 pub loop-left-preserved : goal.loop-left-preserved
 loop-left-preserved c =
@@ -31,6 +33,7 @@ loop-left-preserved c =
     }
 
 pub returns : goal.returns
-returns c =
-    (λ t. c.loop-left.invariant.onward (ap rest_back c.in_default.is ∙ rest-none c.loop-left.right c.is_none.result c.is_none.ensures t),
-    λ e. none-rest c.loop-left.right c.is_none.result c.is_none.ensures (sym (ap rest_back c.in_default.is) ∙ c.loop-left.invariant.back e))
+returns c = (
+  λ t. c.loop-left.invariant.onward (ap rest_back c.in_default.is ∙ rest-none c.loop-left.right c.is_none.result c.is_none.ensures t),
+  λ e. none-rest c.loop-left.right c.is_none.result c.is_none.ensures (sym (ap rest_back c.in_default.is) ∙ c.loop-left.invariant.back e),
+)
