@@ -25,6 +25,22 @@ impl Context {
         requires { ItemsIn program.now self.old }
         ensures { IfOk result (Delivers program.now value self.old self.new) }
     {
+        match self.stack.pop_own() {
+            Some(item) => self.resume(alloc, program, item, value),
+            None => self.deliver_shared(alloc, program, value),
+        }
+    }
+
+    // Does what comes next with the value where that may be shared with copies.
+    fn deliver_shared(
+        &mut self,
+        alloc: Global,
+        program: &Program,
+        value: Known,
+    ) -> Result<Control, AllocError>
+        requires { ItemsIn program.now self.old }
+        ensures { IfOk result (Delivers program.now value self.old self.new) }
+    {
         let first = self.stack.pop()?;
         match first {
             Some(item) => self.resume(alloc, program, item, value),

@@ -59,6 +59,13 @@ impl Stack {
         self.items.push(item)
     }
 
+    /// Takes the first item off where that takes no memory.
+    pub fn pop_own(&mut self) -> Option<Item>
+        ensures { MatchOption result (self.new ≡ self.old) (λ item. self.old ≡ item ∷ self.new) }
+    {
+        self.items.pop_own()
+    }
+
     /// Takes the first item off.
     pub fn pop(&mut self) -> Result<Option<Item>, AllocError>
         ensures { IfOk result (λ item. MatchOption item ((self.old ≡ []) × (self.new ≡ [])) (λ item. self.old ≡ item ∷ self.new)) }

@@ -80,6 +80,13 @@ impl<T: Copied> SharedStack<T> {
         self.own.push(item).map_err(|_| AllocError)
     }
 
+    /// Takes the first item off where it lies apart from those that copies share. It takes no memory.
+    pub fn pop_own(&mut self) -> Option<T>
+        ensures { MatchOption result (self.new ≡ self.old) (λ item. self.old ≡ item ∷ self.new) }
+    {
+        self.own.pop()
+    }
+
     /// Takes the first item off. Where copies share it, that is a copy.
     pub fn pop(&mut self) -> Result<Option<T>, AllocError>
         ensures { IfOk result (λ item. MatchOption item ((self.old ≡ []) × (self.new ≡ [])) (λ item. self.old ≡ item ∷ self.new)) }
