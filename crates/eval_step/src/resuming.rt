@@ -25,26 +25,13 @@ impl Context {
         requires { ItemsIn program.now self.old }
         ensures { IfOk result (Delivers program.now value self.old self.new) }
     {
-        match self.stack.pop_own() {
-            Some(item) => self.resume(alloc, program, item, value),
-            None => self.deliver_shared(alloc, program, value),
+        let is_there = self.stack.fetch()?;
+        if !is_there {
+            return Ok(Control::Halted(Halt::Value(value.into_value())));
         }
-    }
-
-    // Does what comes next with the value where that may be shared with copies.
-    fn deliver_shared(
-        &mut self,
-        alloc: Global,
-        program: &Program,
-        value: Known,
-    ) -> Result<Control, AllocError>
-        requires { ItemsIn program.now self.old }
-        ensures { IfOk result (Delivers program.now value self.old self.new) }
-    {
-        let first = self.stack.pop()?;
-        match first {
+        match self.stack.pop() {
             Some(item) => self.resume(alloc, program, item, value),
-            None => Ok(Control::Halted(Halt::Value(value.into_value()))),
+            None => Err(AllocError),
         }
     }
 

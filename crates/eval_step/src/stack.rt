@@ -1,4 +1,4 @@
-ghost use Rattle.std.specs.Prelude.{◌≡◌, [], ◌∷◌, IfOk, OnOk, MatchOption};
+ghost use Rattle.std.specs.Prelude.{◌≡◌, false, [], ◌∷◌, IfOk, OnOk, MatchOption};
 ghost use Rattle.std.specs.List.{slice_get};
 ghost use Rattle.std.specs.Option.{option_copied};
 ghost use Rattle.eval_step.specs.Resume.{needs_frame};
@@ -59,16 +59,17 @@ impl Stack {
         self.items.push(item)
     }
 
-    /// Takes the first item off where that takes no memory.
-    pub fn pop_own(&mut self) -> Option<Item>
-        ensures { MatchOption result (self.new ≡ self.old) (λ item. self.old ≡ item ∷ self.new) }
+    /// Sees to it that the first item can be taken off without memory, and says whether there is one.
+    pub fn fetch(&mut self) -> Result<bool, AllocError>
+        ensures same { OnOk result (self.new ≡ self.old) }
+        ensures none { IfOk result (λ is_there. is_there ≡ false → self.new ≡ []) }
     {
-        self.items.pop_own()
+        self.items.fetch()
     }
 
-    /// Takes the first item off.
-    pub fn pop(&mut self) -> Result<Option<Item>, AllocError>
-        ensures { IfOk result (λ item. MatchOption item ((self.old ≡ []) × (self.new ≡ [])) (λ item. self.old ≡ item ∷ self.new)) }
+    /// Takes the first item off where that takes no memory, as after `fetch`.
+    pub fn pop(&mut self) -> Option<Item>
+        ensures { MatchOption result (self.new ≡ self.old) (λ item. self.old ≡ item ∷ self.new) }
     {
         self.items.pop()
     }

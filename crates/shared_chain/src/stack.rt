@@ -1,4 +1,4 @@
-ghost use Rattle.std.specs.Prelude.{◌≡◌, ◌≤◌, length, [], ◌∷◌, ◌++◌, reverse, IfOk, OnOk, MatchOption};
+ghost use Rattle.std.specs.Prelude.{◌≡◌, ◌≤◌, length, [], ◌∷◌, ◌++◌, reverse, false, IfOk, OnOk, MatchOption};
 ghost use Rattle.std.specs.List.{slice_get};
 ghost use Rattle.std.specs.Option.{option_copied};
 ghost use Rattle.shared_chain.specs.Chunks.{joined};
@@ -80,21 +80,24 @@ impl<T: Copied> SharedStack<T> {
         self.own.push(item).map_err(|_| AllocError)
     }
 
-    /// Takes the first item off where it lies apart from those that copies share. It takes no memory.
-    pub fn pop_own(&mut self) -> Option<T>
+    /// Sees to it that the first item lies apart from those that copies share, and says whether there is one. Where copies
+    /// share it, that copies a few items.
+    pub fn fetch(&mut self) -> Result<bool, AllocError>
+        ensures same { OnOk result (self.new ≡ self.old) }
+        ensures none { IfOk result (λ is_there. is_there ≡ false → self.new ≡ []) }
+    {
+        if !self.own.is_empty() {
+            return Ok(true);
+        }
+        self.own = fetched(self.alloc, &mut self.below)?;
+        Ok(!self.own.is_empty())
+    }
+
+    /// Takes the first item off where it lies apart from those that copies share, as after `fetch`. It takes no memory.
+    pub fn pop(&mut self) -> Option<T>
         ensures { MatchOption result (self.new ≡ self.old) (λ item. self.old ≡ item ∷ self.new) }
     {
         self.own.pop()
-    }
-
-    /// Takes the first item off. Where copies share it, that is a copy.
-    pub fn pop(&mut self) -> Result<Option<T>, AllocError>
-        ensures { IfOk result (λ item. MatchOption item ((self.old ≡ []) × (self.new ≡ [])) (λ item. self.old ≡ item ∷ self.new)) }
-    {
-        if self.own.is_empty() {
-            self.own = fetched(self.alloc, &mut self.below)?;
-        }
-        Ok(self.own.pop())
     }
 
     /// The item that comes after so many others.
