@@ -126,7 +126,8 @@ fn lower_of<T: Drop>(own: &mut Vec<T>) -> Result<Chunk<T>, AllocError>
     ensures { IfOk result (λ lower. reverse own.new.items ++ lower ≡ reverse own.old.items) }
 {
     let upper = own.split_off(CHUNK)?;
-    let lower = mem::replace(own, upper);
+    let mut lower = mem::replace(own, upper);
+    lower.shrink_to_fit();
     Ok(Chunk::of(lower))
 }
 

@@ -10,5 +10,5 @@ returns g c =
     let old = c.args.own.now.items in
     ap (λ (v : Vec _ Global). reverse v.items ++ c.of.result) c.replace-lower.ensures.after
     ∙ ap (λ l. reverse l ++ c.of.result) c.in_ok-upper.ensures.tail
-    ∙ ap (λ l. reverse (drop 32 old) ++ l) (c.of.ensures ∙ ap (λ (v : Vec _ Global). reverse v.items) c.replace-lower.ensures.value ∙ ap reverse c.in_ok-upper.ensures.items)
+    ∙ ap (λ l. reverse (drop 32 old) ++ l) (c.of.ensures ∙ ap reverse c.shrink_to_fit.ensures.items ∙ ap (λ (v : Vec _ Global). reverse v.items) c.replace-lower.ensures.value ∙ ap reverse c.in_ok-upper.ensures.items)
     ∙ halves 32 old
