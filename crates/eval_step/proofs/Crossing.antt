@@ -1,7 +1,14 @@
 -- A machine may be moved into a thread.
-use denote.Param.Send.{IsSend}
-use Rattle.value_core.proofs.Crossing.{value_send, values_send}
-use Rattle.serial_model.proofs.Crossing.{fields, answer_send, halt_send}
+use denote.Param.Send.{IsSend, IsSync, sendable}
+use denote.Param.SendFields.{as_row_sync, declared_sync, variants_sync}
+use Rattle.std.proofs.Crossing.{crosses}
+use Rattle.value_core.proofs.Crossing.{value_send, value_sync, values_send}
+use Rattle.serial_model.proofs.Crossing.{fields, halt_send}
+use Rattle.answer_runs.proofs.Crossing.{answers_send}
+use Rattle.shared_chain.proofs.Crossing.{link_send, link_sync, below_send}
+use Rattle.shared_chain.specs.contracts.chain.Chain as chain
+use Rattle.shared_chain.specs.contracts.chunk.Chunk as chunk
+use Rattle.shared_chain.specs.contracts.stack.SharedStack as shared_stack
 use Rattle.eval_step.specs.contracts.context.Context as context
 use Rattle.eval_step.specs.contracts.control.Control as control
 use Rattle.eval_step.specs.contracts.frame.Frame as frame
@@ -16,11 +23,29 @@ control_send = search (value_send, halt_send, fields) depth 60 fits 20000
 frame_send : IsSend frame.the_row
 frame_send = search (value_send, fields) depth 60 fits 20000
 
+frame_sync : IsSync frame.the_row
+frame_sync = search (value_sync, as_row_sync, declared_sync, crosses, sendable) depth 60 fits 20000
+
 item_send : IsSend item.the_row
 item_send = search (frame_send, fields) depth 60 fits 20000
 
+item_sync : IsSync item.the_row
+item_sync = search (frame_sync, variants_sync, as_row_sync, crosses, sendable) depth 60 fits 20000
+
+chunk_send : IsSend (chunk.the_row item.the_row)
+chunk_send = search (item_send, fields) depth 60 fits 20000
+
+chunk_sync : IsSync (chunk.the_row item.the_row)
+chunk_sync = search (item_sync, as_row_sync, declared_sync, crosses, sendable) depth 60 fits 20000
+
+chunks_send : IsSend (chain.the_row (chunk.the_row item.the_row))
+chunks_send = search (chunk_send, chunk_sync, link_send, link_sync, below_send, fields) depth 60 fits 20000
+
+items_send : IsSend (shared_stack.the_row item.the_row)
+items_send = search (item_send, chunks_send, fields) depth 60 fits 20000
+
 stack_send : IsSend stack.the_row
-stack_send = search (item_send, fields) depth 60 fits 20000
+stack_send = search (items_send, fields) depth 60 fits 20000
 
 context_send : IsSend context.the_row
 context_send = search (frame_send, stack_send, fields) depth 60 fits 20000
@@ -29,4 +54,4 @@ walk_send : IsSend walk.the_row
 walk_send = search (control_send, context_send, fields) depth 60 fits 20000
 
 pub machine_send : IsSend machine.the_row
-machine_send = search (walk_send, values_send, answer_send, fields) depth 60 fits 20000
+machine_send = search (walk_send, values_send, answers_send, fields) depth 60 fits 20000

@@ -4,12 +4,11 @@ ghost use Rattle.eval_step.specs.Walk.{FailedAt};
 use crate::context::Context;
 use crate::control::Control;
 use crate::item::Item;
-use crate::stack::Stack;
 use crate::walk::Walk;
+use answer_runs::Answers;
 use serial_model::Answer;
 use std::alloc::{AllocError, Global};
-use value_core::Seq;
-use value_core::lists::add;
+use value_core::Copied;
 
 /// An equal walk. Of a failed one there is none.
 pub fn copy_walk(alloc: Global, walk: &Walk) -> Result<Walk, AllocError>
@@ -28,7 +27,7 @@ fn copy_context(alloc: Global, context: &Context) -> Result<Context, AllocError>
 {
     Ok(Context {
         frame: context.frame.copy(alloc)?,
-        stack: copy_stack(alloc, &context.stack)?,
+        stack: context.stack.copy()?,
     })
 }
 
@@ -45,14 +44,10 @@ fn copy_control(alloc: Global, control: &Control) -> Result<Control, AllocError>
     }
 }
 
-fn copy_stack(alloc: Global, stack: &Stack) -> Result<Stack, AllocError>
-    ensures { IfOk result (λ copied. copied ≡ stack.now) }
-{
-    let mut copied = Stack::new(alloc);
-    for item in stack.from_last() {
-        copied.push(copy_item(alloc, item)?)?;
+impl Copied for Item {
+    fn copied(&self, alloc: Global) -> Result<Self, AllocError> {
+        copy_item(alloc, self)
     }
-    Ok(copied)
 }
 
 fn copy_item(alloc: Global, item: &Item) -> Result<Item, AllocError>
@@ -72,26 +67,10 @@ fn copy_item(alloc: Global, item: &Item) -> Result<Item, AllocError>
     }
 }
 
-/// Equal answers.
-pub fn copy_answers(alloc: Global, answers: &[Answer]) -> Result<Seq<Answer>, AllocError>
-    ensures { IfOk result (λ copied. copied ≡ answers.now) }
-{
-    let mut copied = Seq::new(alloc);
-    copied.reserve(answers.len())?;
-    for answer in answers {
-        add(&mut copied, answer.copy(alloc)?)?;
-    }
-    Ok(copied)
-}
-
 /// Appends an equal answer. For want of memory the answers stay.
-pub fn keep_answer(
-    alloc: Global,
-    answers: &mut Seq<Answer>,
-    answer: &Answer,
-) -> Result<(), AllocError>
+pub fn keep_answer(alloc: Global, answers: &mut Answers, answer: &Answer) -> Result<(), AllocError>
     ensures ok { OnOk result (answers.new ≡ answers.old ++ answer.now ∷ []) }
     ensures err { OnErr result (answers.new ≡ answers.old) }
 {
-    add(answers, answer.copy(alloc)?)
+    answers.add(answer.copy(alloc)?)
 }

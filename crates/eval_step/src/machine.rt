@@ -5,16 +5,17 @@ ghost use Rattle.eval_step.specs.Evaluation.{IsAsk, IsAsking, IsFailed, IsOf, Is
 
 use crate::context::Context;
 use crate::control::Control;
-use crate::copies::{copy_answers, copy_walk, keep_answer};
+use crate::copies::{copy_walk, keep_answer};
 use crate::frame::Frame;
-use crate::sameness::{same_answers, same_values};
+use crate::sameness::same_values;
 use crate::stack::Stack;
 use crate::walk::Walk;
+use answer_runs::Answers;
 use core_syntax::{NodeId, Program};
 use serial_model::{Answer, Halt};
 use std::alloc::{AllocError, Global};
 use std::marker::Model;
-use value_core::{Seq, Values};
+use value_core::Values;
 
 /// An evaluation that goes on from request to request.
 #[derive(Drop)]
@@ -23,7 +24,7 @@ pub struct Machine {
     values: Values,
     inside: bool,
     fuel: u64,
-    answers: Seq<Answer>,
+    answers: Answers,
     inner: Walk,
 }
 
@@ -71,7 +72,7 @@ impl Machine {
             values,
             inside: in_transaction,
             fuel,
-            answers: Seq::new(alloc),
+            answers: Answers::new(alloc),
             inner: Walk {
                 control: Control::Begin(body),
                 context,
@@ -127,7 +128,7 @@ impl Machine {
             values: self.values.copy()?,
             inside: self.inside,
             fuel: self.fuel,
-            answers: copy_answers(alloc, self.answers.items())?,
+            answers: self.answers.copy()?,
             inner: copy_walk(alloc, &self.inner)?,
         })
     }
@@ -141,6 +142,6 @@ impl Machine {
             && self.inside == other.inside
             && self.fuel == other.fuel
             && same_values(self.values.items(), other.values.items())
-            && same_answers(self.answers.items(), other.answers.items())
+            && self.answers.same(&other.answers)
     }
 }

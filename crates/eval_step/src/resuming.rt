@@ -25,9 +25,13 @@ impl Context {
         requires { ItemsIn program.now self.old }
         ensures { IfOk result (Delivers program.now value self.old self.new) }
     {
+        let is_there = self.stack.fetch()?;
+        if !is_there {
+            return Ok(Control::Halted(Halt::Value(value.into_value())));
+        }
         match self.stack.pop() {
             Some(item) => self.resume(alloc, program, item, value),
-            None => Ok(Control::Halted(Halt::Value(value.into_value()))),
+            None => Err(AllocError),
         }
     }
 

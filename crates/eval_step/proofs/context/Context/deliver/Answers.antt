@@ -1,4 +1,4 @@
-use Rattle.std.proofs.Common.{length, sym, subst}
+use Rattle.std.proofs.Common.{◌∙◌, length, sym, subst}
 use Rattle.std.specs.Prelude.{All}
 use Rattle.std.proofs.lemmas.List.Elements.{All-tail}
 use Rattle.std.proofs.lemmas.Result.{IfOk-weaker}
@@ -13,18 +13,19 @@ use Rattle.eval_step.proofs.context.Context.deliver.Goals as goal
 pub resume-requires-clause-items : goal.resume-requires-clause-items
 resume-requires-clause-items c =
     let P = ItemIn (length c.args.program.now.nodes) in
-    All-tail P c.in-Some.item c.pop.new.self (subst (All P) c.in-Some.ensures c.requires)
+    All-tail P c.in-Some.item c.pop.new.self (subst (All P) (sym c.in_ok-is_there.ensures.same ∙ c.in-Some.ensures) c.requires)
 
 pub returns-in-Some : goal.returns-in-Some
 returns-in-Some c =
     let old = c.args.self.now in
     IfOk-weaker c.resume.result _ _
-    (λ stands. delivers_item c.args.program.now old.frame old.stack c.pop.new.self c.in-Some.item c.args.value c.resume.new.self stands c.in-Some.ensures)
+    (λ stands. delivers_item c.args.program.now old.frame old.stack c.pop.new.self c.in-Some.item c.args.value c.resume.new.self stands (sym c.in_ok-is_there.ensures.same ∙ c.in-Some.ensures))
     c.resume.ensures
 
-pub returns-in-None : goal.returns-in-None
-returns-in-None c =
+pub returns-then-not-is_there : goal.returns-then-not-is_there
+returns-then-not-is_there c =
     let old = c.args.self.now in
-    let P : Value → Type 0 = λ v. Delivers c.args.program.now c.args.value old (record { frame = old.frame; stack = c.pop.new.self }) (Halted (halt.Value v)) in
+    let empty = c.in_ok-is_there.ensures.none c.if-not-is_there.true in
+    let P : Value → Type 0 = λ v. Delivers c.args.program.now c.args.value old (record { frame = old.frame; stack = c.fetch.new.self }) (Halted (halt.Value v)) in
     subst P (sym c.into_value.ensures)
-    (delivers_last c.args.program.now old.frame old.stack c.args.value c.pop.new.self c.in-None.ensures.0 c.in-None.ensures.1)
+    (delivers_last c.args.program.now old.frame old.stack c.args.value c.fetch.new.self (sym c.in_ok-is_there.ensures.same ∙ empty) empty)

@@ -1,0 +1,4 @@
+pub mod Crossing
+pub mod Earlier
+pub mod Rests
+pub mod Runs
