@@ -11,6 +11,7 @@ pub mod Said
 pub mod ScheduleErrors
 pub mod ScheduleLoads
 pub mod ScheduleRuns
+pub mod ScheduleWrites
 pub mod Stopped
 pub mod Stuck
 pub mod Tracing

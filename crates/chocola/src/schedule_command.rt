@@ -189,20 +189,21 @@ fn drive_to_end(
     ensures over { IfSome result (λ over. IsOverWith world.new over.end) }
     ensures driven { IfSome result (λ over. IsDrivenOn lines.now world.old over.report world.new) }
 {
-    let report = drive(world, alloc, program, lines).ok()?;
-    let (end, line) = finish_with_line(alloc, world)?;
-    Some(Over { report, end, line })
+    match drive(world, alloc, program, lines) {
+        Ok(report) => end_with(alloc, world, report),
+        Err(_) => None,
+    }
 }
 
-/// Ends the run, and answers the end with its line, where there is memory for both.
-fn finish_with_line(alloc: Global, world: &mut World) -> Option<(End, Vec<u8>)>
+/// Ends the run, and answers the end with its line and with that report, where there is memory for both.
+fn end_with(alloc: Global, world: &mut World, report: Text) -> Option<Over>
     ensures later { IsLaterWorld world.old world.new }
-    ensures over { IfSome result (λ both. IsOverWith world.new both.0) }
-    ensures line { IfSome result (λ both. both.1.items ≡ end_line both.0) }
+    ensures over { IfSome result (λ over. IsOverWith world.new over.end) }
+    ensures report { IfSome result (λ over. over.report ≡ report) }
 {
     let end = world.finish(alloc).ok()?;
     let line = end_line(alloc, &end).ok()?;
-    Some((end, line))
+    Some(Over { report, end, line })
 }
 
 /// The outcome of a run that stopped for want of memory, which it says.
@@ -268,8 +269,8 @@ fn keep_after<F: Files>(
     }
 }
 
-/// Writes the report, and then the line of the end, where what came before it was written and the report was. It answers the
-/// status of the end, or 7 where something was not written.
+/// Writes the report, and behind it the line of the end where what came before it was written too. It answers the status of the
+/// end, or 7 where something was not written.
 fn report_and_say<E: Sink>(
     written: Result<(), Failed>,
     report: &[u8],
@@ -283,9 +284,8 @@ fn report_and_say<E: Sink>(
     ensures after { WritesAfter written (E.seen err.old) (E.seen err.new) result }
     ensures says { SaysReport report.now result (Some end.now) (E.seen err.old) (E.seen err.new) }
 {
-    let reported = write_all(report, err);
-    match written {
-        Ok(()) => say_end(reported, end, line, err),
+    match write_all(report, err) {
+        Ok(()) => say_end(written, end, line, err),
         Err(_) => NOT_WRITTEN,
     }
 }
