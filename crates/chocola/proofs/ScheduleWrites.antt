@@ -19,7 +19,7 @@ use Rattle.chocola.specs.declared.outcome.Detail.TheVariants.{Nothing}
 use Rattle.chocola.specs.EndWritten.{EndWritten}
 use Rattle.chocola.specs.KeptAfter.{KeepsAfter}
 use Rattle.chocola.specs.LineWritten.{SaysLine}
-use Rattle.chocola.specs.Lines.{memory_line}
+use Rattle.chocola.specs.Lines.{ended_line, memory_line}
 use Rattle.chocola.specs.Outcome.{IsEnded}
 use Rattle.chocola.specs.SaysOutcome.{SaysOutcome}
 use Rattle.chocola.specs.SaysReport.{SaysReport}
@@ -85,7 +85,7 @@ module _ (report : List ℕ) (end : End) (old mid new : SinkSeen) where
   SaysReport-of s whole quiet later says ended = record {
     said = Said-append old mid new report _ (subst (λ n. old.faults ≤ n) (sym quiet) (le_refl old.faults)) later (λ calm. whole) says.said;
     said_at_most = TookPrefix-append old.taken mid.taken new.taken report _ whole says.said_at_most;
-    end_said = λ written. says.end_said ended written ∙ ap (λ t. append_known t _) whole ∙ append_known-append old.taken report _;
+    end_said = λ written. says.end_said ended written ∙ ap (λ t. append_known t (ended_line (Some end))) whole ∙ append_known-append old.taken report (ended_line (Some end));
   }
 
   pub WritesAfter-of : (written : Result Unit Failed) (s : ℕ) → mid.faults ≡ old.faults → WritesAfter written mid new s → WritesAfter written old new s

@@ -1,5 +1,5 @@
 -- A trace that is kept where the bytes before it were written.
-use Rattle.std.specs.Prelude.{◌≡◌, ◌≤◌, ◌⊎◌, List, Option, IfSome, Result, IsOk, IsErr, IsErrOf, OnOk}
+use Rattle.std.specs.Prelude.{◌≡◌, ◌≤◌, ℕ, ◌⊎◌, List, Option, IfSome, Result, IsOk, IsErr, IsErrOf, OnOk}
 use Rattle.world_io.specs.Counts.{Rose}
 use Rattle.world_io.specs.Held.{told, IsHeld}
 use Rattle.world_io.specs.Seen.{FilesSeen}

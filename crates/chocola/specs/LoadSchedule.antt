@@ -37,7 +37,7 @@ HasActors program = IsWithoutActors program → ⊥
 -- what becomes of a schedule's file that was read; one over the limit is refused at its first line
 abbrev pub GivesSchedule : Fetched → Result (List Line) LineNo → Type 0
 GivesSchedule (Bytes bytes) (Ok lines) = IsTextOfSchedule lines bytes.items
-GivesSchedule (Bytes bytes) (Err no) = IsWhy no bytes.items
+GivesSchedule (Bytes bytes) (Err refusal) = IsWhy refusal bytes.items
 GivesSchedule TooLong (Err (line.Refused kind at)) = (kind ≡ line_kind.TooLong) × (at ≡ 1)
 GivesSchedule TooLong answer = ⊥
 
