@@ -1,11 +1,11 @@
 -- From the files of a program and of a schedule to what is read of them.
-use Rattle.std.proofs.Common.{◌≡◌, ◌≢◌, ℕ, List, refl, sym, ◌∙◌, subst}
+use Rattle.std.proofs.Common.{◌≡◌, ℕ, List, refl, sym, subst}
 use Rattle.std.specs.Prelude.{Option, None, Some, Result, Ok, Err}
 use Rattle.core_syntax.specs.Table.{Table}
 use Rattle.schedule_text.proofs.Unique.{not_refused}
 use Rattle.schedule_text.specs.declared.error.LineNo.TheVariants as line
 use Rattle.schedule_text.specs.declared.line.Line.{Line}
-use Rattle.schedule_text.specs.Schedule.{IsTextOfSchedule, schedule_limit, schedule_refusal}
+use Rattle.schedule_text.specs.Schedule.{schedule_limit, schedule_refusal}
 use Rattle.serial_model.specs.Actors.{IsWithoutActors}
 use Rattle.serial_model.specs.declared.trace.LineKind.{LineKind}
 use Rattle.serial_model.specs.declared.trace.LineKind.TheVariants as line_kind
@@ -19,7 +19,7 @@ use Rattle.chocola.specs.declared.load_schedule.Scheduled.{Scheduled}
 use Rattle.chocola.specs.declared.load_schedule.ScheduledNo.{ScheduledNo}
 use Rattle.chocola.specs.declared.load_schedule.ScheduledNo.TheVariants as scheduled
 use Rattle.chocola.specs.Fetch.{Fetches}
-use Rattle.chocola.specs.Load.{GivesFile, IsLoaded}
+use Rattle.chocola.specs.Load.{GivesFile}
 use Rattle.chocola.specs.LoadSchedule.{GivesLines, GivesSchedule, GivesScheduled, IsScheduled, IsScheduleDue, LoadsScheduled}
 use Rattle.chocola.proofs.Loading.{held_bytes, loads_file, none_failed, there}
 

@@ -1,6 +1,6 @@
 -- What is written at the end of a run by a schedule.
-use Rattle.std.proofs.Common.{◌≡◌, ◌≢◌, ◌≤◌, ◌∙◌, ℕ, List, [], ◌++◌, refl, sym, ap, subst, inl, inr, arith, le_refl}
-use Rattle.std.specs.Prelude.{◌⊎◌, Option, None, Some, IfSome, Result, Ok, Err, IsOk, IsErr, IsErrOf, OnOk}
+use Rattle.std.proofs.Common.{◌≡◌, ◌≢◌, ◌≤◌, ◌∙◌, ℕ, List, refl, sym, ap, subst, inl, inr, arith, le_refl}
+use Rattle.std.specs.Prelude.{Option, None, Some, IfSome, Result, Ok, Err, IsOk, IsErr, IsErrOf, OnOk}
 use Rattle.std.specs.Io.KnownBytes.{append_known}
 use Rattle.serial_model.specs.Replay.{status}
 use Rattle.serial_model.specs.Trace.{trace_text}
@@ -10,7 +10,7 @@ use Rattle.world_io.proofs.TakenLemmas.{Said-append, TookPrefix-append, TookPref
 use Rattle.world_io.specs.Counts.{Rose}
 use Rattle.world_io.specs.Held.{told, IsHeld}
 use Rattle.world_io.specs.Seen.{FilesSeen, SinkSeen}
-use Rattle.world_io.specs.Taken.{CountsWrite, TookPrefix, Said}
+use Rattle.world_io.specs.Taken.{TookPrefix}
 use Rattle.world_io.specs.Writes.{CountsFileWrite}
 use Rattle.world_io.specs.declared.files.WriteNo.{WriteNo}
 use Rattle.world_io.specs.declared.files.WriteNo.TheVariants as no

@@ -178,12 +178,7 @@ struct Over {
 }
 
 /// Drives the world by the lines, and then ends the run. It stops for want of memory.
-fn drive_to_end(
-    alloc: Global,
-    world: &mut World,
-    program: &Program,
-    lines: &Lines,
-) -> Option<Over>
+fn drive_to_end(alloc: Global, world: &mut World, program: &Program, lines: &Lines) -> Option<Over>
     requires { program.now ≡ world.old.setup.program }
     ensures setup { world.new.setup ≡ world.old.setup }
     ensures over { IfSome result (λ over. IsOverWith world.new over.end) }
