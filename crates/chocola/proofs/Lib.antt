@@ -1,11 +1,17 @@
 pub mod Answered
 pub mod Answering
 pub mod Checking
+pub mod DrivenWorlds
+pub mod Ended
 pub mod Finishes
 pub mod Loading
 pub mod Pieces
 pub mod Replaying
 pub mod Said
+pub mod ScheduleErrors
+pub mod ScheduleLoads
+pub mod ScheduleRuns
+pub mod ScheduleWrites
 pub mod Stopped
 pub mod Stuck
 pub mod Tracing

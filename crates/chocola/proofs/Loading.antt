@@ -76,7 +76,7 @@ loads_file name before mid after TooLong (Err (OutOfScope kind at)) f quiet h = 
 loads_file name before mid after TooLong (Err Memory) f quiet h = absurd h
 
 -- a file that was read is there
-there : (name : List ℕ) (limit : ℕ) (before after : FilesSeen) (file : Fetched) → Fetches name limit before after (Ok file) → told before.held name ≢ Some None
+pub there : (name : List ℕ) (limit : ℕ) (before after : FilesSeen) (file : Fetched) → Fetches name limit before after (Ok file) → told before.held name ≢ Some None
 there name limit before after (Bytes bytes) f e = let h : IsHeld (Some None) bytes.items = subst (λ x. IsHeld x bytes.items) e f.0 in absurd (cc)
 there name limit before after TooLong f e = let h : ExceedsLimit (Some None) limit = subst (λ x. ExceedsLimit x limit) e f.0 in absurd h
 

@@ -1,5 +1,5 @@
 -- The line of an outcome.
-use Rattle.std.proofs.Common.{◌≡◌, ℕ, List, [], refl, subst, inl, inr}
+use Rattle.std.proofs.Common.{◌≡◌, ℕ, List, [], ◌++◌, refl, subst, inl, inr}
 use Rattle.std.specs.Prelude.{◌⊎◌, Option, Some}
 use Rattle.std.specs.Io.KnownBytes.{append_known}
 use Rattle.serial_model.specs.declared.end.End.{End}
@@ -11,6 +11,7 @@ use Rattle.chocola.specs.declared.load.LoadNo.TheVariants.{NotRead, Refused, Out
 use Rattle.chocola.specs.Lines.{ended_line, line_of, line_begun, load_line}
 use Rattle.chocola.specs.Outcome.{IsEnded, end_unless_memory, load_status, load_detail}
 use Rattle.chocola.specs.SaysOutcome.{SaysOutcome}
+use Rattle.chocola.specs.SaysReport.{SaysReport}
 
 pub line_of-load : (name : List ℕ) (error : LoadNo) (end : Option End) → line_of name (load_status error) (load_detail error) end ≡ load_line name error
 line_of-load name NotRead end = refl
@@ -46,4 +47,12 @@ SaysOutcome-unless s end old new h says = record {
   said = subst (Said old new) (line_of-unless s end h) says.said;
   said_at_most = subst (TookPrefix old.taken new.taken) (line_begun-unless s end h) says.said_at_most;
   end_said = λ ended written. subst (λ line. new.taken ≡ append_known old.taken line) (ended_line-unless s end ended) (says.end_said ended written);
+}
+
+-- and so is what was said of a run by a schedule that came to its end
+pub SaysReport-unless : (report : List ℕ) (s : ℕ) (end : End) (old new : SinkSeen) → IsEnded s → SaysReport report s (Some end) old new → SaysReport report s (end_unless_memory s end) old new
+SaysReport-unless report s end old new ended says = record {
+  said = subst (λ line. Said old new (report ++ line)) (line_of-unless s end (inl ended)) says.said;
+  said_at_most = subst (λ line. TookPrefix old.taken new.taken (report ++ line)) (line_begun-unless s end (inl ended)) says.said_at_most;
+  end_said = λ written. subst (λ line. new.taken ≡ append_known old.taken (report ++ line)) (ended_line-unless s end ended) (says.end_said written);
 }

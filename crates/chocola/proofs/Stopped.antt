@@ -19,12 +19,12 @@ module _ (outcome : Outcome) (six : outcome.status ≡ 6) where
   not_ended : IsEnded outcome.status → ⊥
   not_ended ended = six_not_ended (subst IsEnded six ended)
 
-  says : (old new : SinkSeen) → SaysLine memory_line old new → SaysOutcome outcome.status outcome.detail outcome.end old new
-  says old new line = record { said = rw six line.said; said_at_most = rw six line.said_at_most; end_said = λ ended written. absurd (not_ended ended) }
+  pub SaysOutcome-stopped : (old new : SinkSeen) → SaysLine memory_line old new → SaysOutcome outcome.status outcome.detail outcome.end old new
+  SaysOutcome-stopped old new line = record { said = rw six line.said; said_at_most = rw six line.said_at_most; end_said = λ ended written. absurd (not_ended ended) }
 
   pub ProgramAnswers-stopped : (setup : Setup) (trace : Option (List ℕ)) (before : Seen) (err : SinkSeen) → outcome.detail ≡ Nothing → outcome.end ≡ None
-      → Finished setup before.out before.out outcome → SaysLine memory_line before.err err → ProgramAnswers setup trace before (record before { err = err }) outcome
-  ProgramAnswers-stopped setup trace before err nothing none finished line = record {
+      → Finished setup before.out before.out outcome → ProgramAnswers setup trace before (record before { err = err }) outcome
+  ProgramAnswers-stopped setup trace before err nothing none finished = record {
     statuses = inr six;
     finished = finished;
     ended = λ ended. absurd (not_ended ended);
@@ -32,7 +32,6 @@ module _ (outcome : Outcome) (six : outcome.status ≡ 6) where
     not_written = λ seven. absurd (omega (arith, six, seven));
     unfailed = λ apart apart_six. absurd (apart_six six);
     detail = nothing;
-    says = says before.err err line;
     reads = refl;
   }
 
@@ -40,7 +39,7 @@ module _ (outcome : Outcome) (six : outcome.status ≡ 6) where
   ReplayWritten-stopped out err err_after line = record {
     not_written = λ seven. absurd (omega (arith, six, seven));
     unfailed = λ apart apart_six. absurd (apart_six six);
-    says = says err err_after line;
+    says = SaysOutcome-stopped err err_after line;
     differs_said = λ eight. absurd (omega (arith, six, eight));
     out_later = le_refl out.faults;
     err_later = line.later;

@@ -12,6 +12,7 @@ use Rattle.chocola.specs.Lines.{memory_line}
 use Rattle.chocola.specs.Outcome.{IsEnded, IsWithoutRun, IsIdle}
 use Rattle.chocola.specs.ReplayAnswers.{IsReplayed, ReplayAnswers}
 use Rattle.chocola.specs.RunAnswers.{RunAnswers}
+use Rattle.chocola.specs.ScheduleAnswers.{ScheduleAnswers}
 use Rattle.chocola.specs.Seen.{Seen, seen, IsUntouched}
 use Rattle.chocola.specs.SourceAnswers.{ReadsSource, Says}
 use Rattle.chocola.specs.Unrun.{IsUnrun}
@@ -77,6 +78,24 @@ module _ (words : List (List ℕ)) (files : FilesSeen) (out err err2 : SinkSeen)
     says = says (file ∷ []);
   }
 
+  schedule : (file schedule : List ℕ) (limits : Budget) (trace : Option (List ℕ)) → ScheduleAnswers file schedule limits trace before after outcome
+  schedule file given limits trace = record {
+    statuses = inr (inr six);
+    run = λ ended. absurd (not_ended ended);
+    ended = λ ended. absurd (not_ended ended);
+    unless_memory = λ is. inl idle;
+    complete = λ bytes text program lines found source covered held is_text calm. inr six;
+    keeps = KeepsTrace-none limits trace before after outcome unrun.end same;
+    reads = reads file (file ∷ given ∷ []);
+    must_refuse_actors = λ bytes program found source actors there calm. inr six;
+    must_refuse_schedule = λ bytes text program kind line found source covered held refusal calm. inr six;
+    refused = λ four. absurd (omega (arith, six, four));
+    not_written = λ seven. absurd (omega (arith, six, seven));
+    idle = λ w. absurd (not_without w);
+    detail = λ apart. unrun.detail;
+    says = λ apart. says (file ∷ given ∷ []);
+  }
+
   replay : (file trace : List ℕ) → ReplayAnswers file trace before after outcome
   replay file trace = record {
     statuses = inr (inr six);
@@ -115,6 +134,7 @@ module _ (words : List (List ℕ)) (files : FilesSeen) (out err err2 : SinkSeen)
   without_memory = record {
     statuses = inl (inr (inr six));
     run = λ file limits trace is. run file limits trace;
+    schedule = λ file given limits trace is. schedule file given limits trace;
     replay = λ file trace is. replay file trace;
     check = λ file is. check file;
     no_command = λ is. record { status = inr six; idle = idle; reads = refl; detail = unrun.detail; says = says [] };

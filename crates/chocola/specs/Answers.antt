@@ -9,6 +9,7 @@ use Rattle.chocola.specs.NoAnswers.{NoCommand}
 use Rattle.chocola.specs.Outcome.{IsStatus}
 use Rattle.chocola.specs.ReplayAnswers.{ReplayAnswers}
 use Rattle.chocola.specs.RunAnswers.{RunAnswers}
+use Rattle.chocola.specs.ScheduleAnswers.{ScheduleAnswers}
 use Rattle.chocola.specs.Seen.{Seen, IsLater}
 use Rattle.chocola.specs.Status as exit
 
@@ -17,6 +18,8 @@ pub record Answers (words : List (List ℕ)) (before after : Seen) (outcome : Ou
   pub statuses : IsStatus outcome.status
   pub run : (file : List ℕ) (limits : Budget) (trace : Option (List ℕ)) → command_of words ≡ Some (said.Run file limits trace)
       → RunAnswers file limits trace before after outcome
+  pub schedule : (file schedule : List ℕ) (limits : Budget) (trace : Option (List ℕ)) → command_of words ≡ Some (said.Schedule file schedule limits trace)
+      → ScheduleAnswers file schedule limits trace before after outcome
   pub replay : (file trace : List ℕ) → command_of words ≡ Some (said.Replay file trace) → ReplayAnswers file trace before after outcome
   pub check : (file : List ℕ) → command_of words ≡ Some (said.Check file) → CheckAnswers file before after outcome
   pub no_command : command_of words ≡ None → NoCommand before after outcome

@@ -1,5 +1,5 @@
--- What is written at the end of a run: its trace, if one is asked for, and then the line of its end.
-use Rattle.std.specs.Prelude.{◌≡◌, ◌≢◌, ◌≤◌, ℕ, ◌⊎◌, List, Option, Some, IfSome, Result, IsOk, IsErr}
+-- What is written at the end of a run: its trace, if one is asked for, and then what is said on standard error.
+use Rattle.std.specs.Prelude.{◌≡◌, ◌≢◌, ◌≤◌, ℕ, ◌⊎◌, List, Option, IfSome, Result, IsOk, IsErr}
 use Rattle.world_io.specs.Counts.{Rose}
 use Rattle.world_io.specs.Held.{told, IsHeld}
 use Rattle.world_io.specs.Seen.{FilesSeen, SinkSeen}
@@ -7,9 +7,7 @@ use Rattle.world_io.specs.declared.sink.Failed.{Failed}
 use Rattle.serial_model.specs.Replay as model
 use Rattle.serial_model.specs.Trace.{trace_text}
 use Rattle.serial_model.specs.declared.trace.Trace.{Trace}
-use Rattle.chocola.specs.declared.outcome.Detail.TheVariants.{Nothing}
 use Rattle.chocola.specs.Outcome.{IsEnded}
-use Rattle.chocola.specs.SaysOutcome.{SaysOutcome}
 use Rattle.chocola.specs.Status as exit
 use Rattle.chocola.specs.Traced.{KeepsOthers}
 
@@ -26,7 +24,6 @@ pub record EndWritten (written : Result Unit Failed) (ran : Trace) (trace : Opti
   -- the cause of an outcome that was not written, and of each other one
   pub unfailed : s ≢ exit.not_written → s ≢ exit.no_memory → IsOk written × (new.faults ≡ old.faults) × (after.write_faults ≡ before.write_faults)
   pub fault : s ≡ exit.not_written → IsErr written ⊎ (Rose old.faults new.faults ⊎ Rose before.write_faults after.write_faults)
-  pub says : SaysOutcome s Nothing (Some ran.end) old new
   -- no file is read, and no count falls
   pub reads : after.read_faults ≡ before.read_faults
   pub write_later : before.write_faults ≤ after.write_faults

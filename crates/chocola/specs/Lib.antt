@@ -1,11 +1,14 @@
 pub mod Answers
 pub mod Check
 pub mod CheckAnswers
+pub mod Driven
 pub mod EndWritten
 pub mod Fetch
+pub mod KeptAfter
 pub mod LineWritten
 pub mod Lines
 pub mod Load
+pub mod LoadSchedule
 pub mod NoAnswers
 pub mod Outcome
 pub mod Outside
@@ -16,6 +19,8 @@ pub mod ReplayWritten
 pub mod Replayed
 pub mod RunAnswers
 pub mod SaysOutcome
+pub mod SaysReport
+pub mod ScheduleAnswers
 pub mod Seen
 pub mod SourceAnswers
 pub mod Status

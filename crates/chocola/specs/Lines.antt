@@ -6,14 +6,16 @@ use Rattle.value_core.specs.declared.code.Code.{Code}
 use Rattle.serial_model.specs.declared.end.End.{End}
 use Rattle.serial_model.specs.declared.end.End.TheVariants as end
 use Rattle.chocola.specs.declared.outcome.Part.{Part}
-use Rattle.chocola.specs.declared.outcome.Part.TheVariants.{Source, Scope, Trace}
+use Rattle.chocola.specs.declared.outcome.Part.TheVariants.{Source, Scope, Trace, Schedule}
 use Rattle.chocola.specs.declared.outcome.Detail.{Detail}
 use Rattle.chocola.specs.declared.outcome.Detail.TheVariants.{Nothing, Refused, Differs}
 use Rattle.chocola.specs.declared.load.LoadNo.{LoadNo}
 use Rattle.chocola.specs.declared.load.LoadNo.TheVariants as load
 use Rattle.chocola.specs.declared.load_replay.GivenNo.{GivenNo}
 use Rattle.chocola.specs.declared.load_replay.GivenNo.TheVariants as given
-use Rattle.chocola.specs.Outcome.{refused_as, out_of_scope, refused_trace}
+use Rattle.chocola.specs.declared.load_schedule.ScheduledNo.{ScheduledNo}
+use Rattle.chocola.specs.declared.load_schedule.ScheduledNo.TheVariants as scheduled
+use Rattle.chocola.specs.Outcome.{refused_as, out_of_scope, not_yet, refused_trace, refused_schedule}
 use Rattle.chocola.specs.Status as exit
 
 abbrev pub one_after_another : List (List ℕ) → List ℕ
@@ -28,7 +30,14 @@ cannot_read_line name = codes "cannot read " ++ name ++ codes "\n"
 abbrev pub memory_line : List ℕ
 memory_line = codes "out of memory\n"
 
--- the name of the refusal with that number, of the source's text, of its scope or of a trace
+-- the name of the refusal with that number, of a text that is read line by line
+abbrev pub line_kind_name : ℕ → List ℕ
+line_kind_name kind =
+    if kind == 1 then codes "BadLine"
+    else (if kind == 2 then codes "TooLong"
+    else [])
+
+-- the name of the refusal with that number, of the source's text, of its scope, of a trace or of a schedule
 abbrev pub kind_name : Part → ℕ → List ℕ
 kind_name Source kind =
     if kind == 1 then codes "BadByte"
@@ -46,11 +55,10 @@ kind_name Scope kind =
     else (if kind == 4 then codes "BadForm"
     else (if kind == 5 then codes "EarlyGlobal"
     else (if kind == 6 then codes "TooManyNodes"
-    else [])))))
-kind_name Trace kind =
-    if kind == 1 then codes "BadLine"
-    else (if kind == 2 then codes "TooLong"
-    else [])
+    else (if kind == 7 then codes "NotYet"
+    else []))))))
+kind_name Trace kind = line_kind_name kind
+kind_name Schedule kind = line_kind_name kind
 
 abbrev pub source_line : Part → ℕ → ℕ → ℕ → List ℕ
 source_line part kind line column = codes "source " ++ decimal line ++ codes ":" ++ decimal column ++ codes " " ++ kind_name part kind ++ codes "\n"
@@ -58,10 +66,14 @@ source_line part kind line column = codes "source " ++ decimal line ++ codes ":"
 abbrev pub trace_line : ℕ → ℕ → List ℕ
 trace_line kind line = codes "trace " ++ decimal line ++ codes " " ++ kind_name Trace kind ++ codes "\n"
 
+abbrev pub schedule_line : ℕ → ℕ → List ℕ
+schedule_line kind line = codes "schedule " ++ decimal line ++ codes " " ++ kind_name Schedule kind ++ codes "\n"
+
 abbrev pub part_line : Part → ℕ → ℕ → ℕ → List ℕ
 part_line Source kind line column = source_line Source kind line column
 part_line Scope kind line column = source_line Scope kind line column
 part_line Trace kind line column = trace_line kind line
+part_line Schedule kind line column = schedule_line kind line
 
 abbrev pub differs_line : ℕ → List ℕ
 differs_line line = one_after_another (codes "replay differs at line " ∷ decimal line ∷ codes "\n" ∷ [])
@@ -125,3 +137,10 @@ abbrev pub given_line : List ℕ → List ℕ → GivenNo → List ℕ
 given_line file trace (given.Source error) = load_line file error
 given_line file trace given.TraceNotRead = cannot_read_line trace
 given_line file trace (given.TraceRefused kind line) = detail_line (refused_trace kind line)
+
+-- and so where there is no run of this file by this schedule
+abbrev pub scheduled_line : List ℕ → List ℕ → ScheduledNo → List ℕ
+scheduled_line file schedule (scheduled.Source error) = load_line file error
+scheduled_line file schedule scheduled.NotYet = detail_line not_yet
+scheduled_line file schedule scheduled.ScheduleNotRead = cannot_read_line schedule
+scheduled_line file schedule (scheduled.ScheduleRefused kind line) = detail_line (refused_schedule kind line)

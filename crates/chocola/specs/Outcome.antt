@@ -17,11 +17,13 @@ use Rattle.serial_model.specs.Kinds as trace
 use Rattle.chocola.specs.declared.outcome.Outcome.{Outcome}
 use Rattle.chocola.specs.declared.outcome.Detail.{Detail}
 use Rattle.chocola.specs.declared.outcome.Detail.TheVariants.{Nothing, Refused}
-use Rattle.chocola.specs.declared.outcome.Part.TheVariants.{Source, Scope, Trace}
+use Rattle.chocola.specs.declared.outcome.Part.TheVariants.{Source, Scope, Trace, Schedule}
 use Rattle.chocola.specs.declared.load.LoadNo.{LoadNo}
 use Rattle.chocola.specs.declared.load.LoadNo.TheVariants as load
 use Rattle.chocola.specs.declared.load_replay.GivenNo.{GivenNo}
 use Rattle.chocola.specs.declared.load_replay.GivenNo.TheVariants as given
+use Rattle.chocola.specs.declared.load_schedule.ScheduledNo.{ScheduledNo}
+use Rattle.chocola.specs.declared.load_schedule.ScheduledNo.TheVariants as scheduled
 use Rattle.chocola.specs.Seen.{Seen, IsUntouched}
 use Rattle.chocola.specs.Status as exit
 use Rattle.chocola.specs.Written.{IsWritten}
@@ -54,9 +56,17 @@ refused_as kind at = Refused Source (text.kind_number kind) at.line at.column
 abbrev pub out_of_scope : ScopeKind → Spot → Detail
 out_of_scope kind at = Refused Scope (scope.kind_number kind) at.line at.column
 
+-- the detail of a program that a schedule can't run yet
+abbrev pub not_yet : Detail
+not_yet = Refused Scope 7 1 1
+
 -- the detail of a refused trace
 abbrev pub refused_trace : LineKind → ℕ → Detail
 refused_trace kind line = Refused Trace (trace.kind_number kind) line 1
+
+-- the detail of a refused schedule
+abbrev pub refused_schedule : LineKind → ℕ → Detail
+refused_schedule kind line = Refused Schedule (trace.kind_number kind) line 1
 
 -- A run or a replay: the history replays to a state; the end is the state's, where there is one, and the status is that
 -- of the end; a front of the state's bytes went to standard output, and all of them where they were written. Where the
@@ -101,6 +111,19 @@ abbrev pub given_detail : GivenNo → Detail
 given_detail (given.Source error) = load_detail error
 given_detail given.TraceNotRead = Nothing
 given_detail (given.TraceRefused kind line) = refused_trace kind line
+
+-- and so where there is no run by a schedule
+abbrev pub scheduled_status : ScheduledNo → ℕ
+scheduled_status (scheduled.Source error) = load_status error
+scheduled_status scheduled.NotYet = exit.refused
+scheduled_status scheduled.ScheduleNotRead = exit.not_read
+scheduled_status (scheduled.ScheduleRefused kind line) = exit.refused
+
+abbrev pub scheduled_detail : ScheduledNo → Detail
+scheduled_detail (scheduled.Source error) = load_detail error
+scheduled_detail scheduled.NotYet = not_yet
+scheduled_detail scheduled.ScheduleNotRead = Nothing
+scheduled_detail (scheduled.ScheduleRefused kind line) = refused_schedule kind line
 
 -- the end of an outcome with that status, which is left out for want of memory
 abbrev pub end_unless_memory : ℕ → End → Option End

@@ -1,11 +1,10 @@
--- What is owed to the run of a program that was read.
+-- What is owed to the run of a program that was read, apart from what is said of it.
 use Rattle.std.specs.Prelude.{◌≡◌, ◌≢◌, ℕ, ◌⊎◌, List, Option, IsSome}
 use Rattle.world_io.specs.Counts.{Rose}
 use Rattle.serial_model.specs.State.{Setup}
 use Rattle.chocola.specs.declared.outcome.Outcome.{Outcome}
 use Rattle.chocola.specs.declared.outcome.Detail.TheVariants.{Nothing}
 use Rattle.chocola.specs.Outcome.{IsEnded, Finished}
-use Rattle.chocola.specs.SaysOutcome.{SaysOutcome}
 use Rattle.chocola.specs.Seen.{Seen, NoWriteFailed}
 use Rattle.chocola.specs.Status as exit
 use Rattle.chocola.specs.Traced.{KeepsTrace}
@@ -21,5 +20,4 @@ pub record ProgramAnswers (setup : Setup) (trace : Option (List ℕ)) (before af
   pub unfailed : outcome.status ≢ exit.not_written → outcome.status ≢ exit.no_memory → NoWriteFailed before after
   -- what else the outcome shows: no file is read
   pub detail : outcome.detail ≡ Nothing
-  pub says : SaysOutcome outcome.status outcome.detail outcome.end before.err after.err
   pub reads : after.files.read_faults ≡ before.files.read_faults

@@ -1,7 +1,7 @@
 ghost use Rattle.std.specs.Prelude.{◌≡◌, flat_map, IfOk};
 ghost use Rattle.chocola.specs.Check.{check_line, count_line};
 ghost use Rattle.chocola.specs.LineWritten.{SaysLine, WritesLine};
-ghost use Rattle.chocola.specs.Lines.{usage_line, cannot_read_line, memory_line, detail_line, part_line, source_line, trace_line, differs_line, kind_name, end_line, fault_line};
+ghost use Rattle.chocola.specs.Lines.{usage_line, cannot_read_line, memory_line, detail_line, part_line, source_line, trace_line, schedule_line, differs_line, kind_name, line_kind_name, end_line, fault_line};
 
 use crate::outcome::{Detail, Part};
 use core_syntax::Program;
@@ -68,6 +68,7 @@ fn write_refusal<E: Sink>(
         Part::Source => write_source(err, part, kind, line, column),
         Part::Scope => write_source(err, part, kind, line, column),
         Part::Trace => write_trace_line(err, kind, line),
+        Part::Schedule => write_schedule_line(err, kind, line),
     }
 }
 
@@ -106,7 +107,23 @@ fn write_trace_line<E: Sink>(err: &mut E, kind: u8, line: u64) -> Result<(), Fai
             b"trace ",
             line_digits.format(line).as_bytes(),
             b" ",
-            trace_kind_name(kind).as_bytes(),
+            line_kind_name(kind).as_bytes(),
+            b"\n",
+        ],
+    )
+}
+
+fn write_schedule_line<E: Sink>(err: &mut E, kind: u8, line: u64) -> Result<(), Failed>
+    ensures { WritesLine (schedule_line kind line) result (E.seen err.old) (E.seen err.new) }
+{
+    let mut line_digits = Buffer::new();
+    write_pieces(
+        err,
+        &[
+            b"schedule ",
+            line_digits.format(line).as_bytes(),
+            b" ",
+            line_kind_name(kind).as_bytes(),
             b"\n",
         ],
     )
@@ -248,7 +265,8 @@ fn kind_name(part: Part, kind: u8) -> &'static str
     match part {
         Part::Source => text_kind_name(kind),
         Part::Scope => scope_kind_name(kind),
-        Part::Trace => trace_kind_name(kind),
+        Part::Trace => line_kind_name(kind),
+        Part::Schedule => line_kind_name(kind),
     }
 }
 
@@ -277,12 +295,13 @@ fn scope_kind_name(kind: u8) -> &'static str
         4 => "BadForm",
         5 => "EarlyGlobal",
         6 => "TooManyNodes",
+        7 => "NotYet",
         _ => "",
     }
 }
 
-fn trace_kind_name(kind: u8) -> &'static str
-    ensures { result.now ≡ kind_name Part.Trace kind }
+fn line_kind_name(kind: u8) -> &'static str
+    ensures { result.now ≡ line_kind_name kind }
 {
     match kind {
         1 => "BadLine",

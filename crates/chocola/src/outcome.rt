@@ -47,10 +47,15 @@ pub enum Part {
     Scope,
     /// The text of a trace.
     Trace,
+    /// The text of a schedule.
+    Schedule,
 }
 
+/// The number of the refusal of a program that a schedule can't run yet.
+const NOT_YET: u8 = 7;
+
 impl Detail {
-    ghost use Rattle.chocola.specs.Outcome.{refused_as, out_of_scope, refused_trace};
+    ghost use Rattle.chocola.specs.Outcome.{refused_as, out_of_scope, not_yet, refused_trace, refused_schedule};
 
     /// The source is refused with that kind at that place.
     pub fn refused(kind: ReadKind, at: Place) -> Self
@@ -76,12 +81,36 @@ impl Detail {
         }
     }
 
+    /// The program is not one that a schedule can run yet.
+    pub fn not_yet() -> Self
+        ensures { result ≡ not_yet }
+    {
+        Detail::Refused {
+            part: Part::Scope,
+            kind: NOT_YET,
+            line: 1,
+            column: 1,
+        }
+    }
+
     /// The trace is refused with that kind at that line.
     pub fn refused_trace(kind: LineKind, line: u64) -> Self
         ensures { result ≡ refused_trace kind line }
     {
         Detail::Refused {
             part: Part::Trace,
+            kind: kind.number(),
+            line,
+            column: 1,
+        }
+    }
+
+    /// The schedule is refused with that kind at that line.
+    pub fn refused_schedule(kind: LineKind, line: u64) -> Self
+        ensures { result ≡ refused_schedule kind line }
+    {
+        Detail::Refused {
+            part: Part::Schedule,
             kind: kind.number(),
             line,
             column: 1,

@@ -53,9 +53,9 @@ pub fn run_file<'a, F: Files, K: Sink, E: Sink>(
 
 /// What a run hands out, with the line of its end.
 #[derive(Drop)]
-struct Ran {
-    trace: Trace,
-    line: Vec<u8>,
+pub struct Ran {
+    pub trace: Trace,
+    pub line: Vec<u8>,
     ghost of_end: { line.items ≡ end_line trace.end },
 }
 
@@ -70,6 +70,9 @@ fn run_program<'a, F: Files, K: Sink, E: Sink>(
     ensures answers { ProgramAnswers (record { program = program; limits = limits }) trace.now
         (seen_before F.seen K.seen E.seen outside.entry)
         (seen_after F.seen K.seen E.seen outside.exit) result }
+    ensures says { SaysOutcome result.status result.detail result.end
+        (seen_before F.seen K.seen E.seen outside.entry).err
+        (seen_after F.seen K.seen E.seen outside.exit).err }
     ensures later { IsLater (seen_before F.seen K.seen E.seen outside.entry) (seen_after F.seen K.seen E.seen outside.exit) }
 {
     let Outside { files, out, err } = outside;
@@ -106,7 +109,7 @@ fn run_with_line(alloc: Global, serial: &mut Serial, limits: Limits) -> Option<(
 }
 
 /// The outcome of a run with that status.
-fn outcome_of(status: u8, ran: Ran) -> Outcome
+pub fn outcome_of(status: u8, ran: Ran) -> Outcome
     ensures status { result.status ≡ status }
     ensures history { result.history ≡ ran.trace.history }
     ensures end { result.end ≡ end_unless_memory status ran.trace.end }
@@ -133,7 +136,8 @@ fn keep_and_say<F: Files, E: Sink>(
     files: &mut F,
     err: &mut E,
 ) -> u8
-    ensures { EndWritten written ran.now.trace trace.now (F.seen files.old) (F.seen files.new) (E.seen err.old) (E.seen err.new) result }
+    ensures ends { EndWritten written ran.now.trace trace.now (F.seen files.old) (F.seen files.new) (E.seen err.old) (E.seen err.new) result }
+    ensures says { SaysOutcome result Detail.Nothing (Some ran.now.trace.end) (E.seen err.old) (E.seen err.new) }
 {
     if written.is_err() {
         return NOT_WRITTEN;
@@ -149,7 +153,7 @@ fn keep_and_say<F: Files, E: Sink>(
 }
 
 /// Keeps the trace under its name, where one is given.
-fn keep<F: Files>(
+pub fn keep<F: Files>(
     alloc: Global,
     ran: &Trace,
     trace: &Option<Text>,

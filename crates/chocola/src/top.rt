@@ -9,6 +9,7 @@ use crate::outcome::{Detail, Outcome};
 use crate::outside::Outside;
 use crate::replay_command::replay_file;
 use crate::run_command::run_file;
+use crate::schedule_command::schedule_file;
 use crate::status::USAGE;
 use crate::without::out_of_memory;
 use command_words::{Command, WordsNo, read_words};
@@ -23,7 +24,7 @@ use world_io::{Files, Sink};
 /// | 1 fault | the history replays to a fault |
 /// | 2 usage | the words are no command |
 /// | 3 not read | a read failed, or nothing is held under a name of the words |
-/// | 4 refused | the source or the trace is refused, as the detail says |
+/// | 4 refused | the source, the trace or the schedule is refused, as the detail says |
 /// | 5 spent | the history replays to spent fuel, or to spent units |
 /// | 6 no memory | there was no memory |
 /// | 7 not written | a write failed, to a sink or of the trace, and none of 2, 3 and 4 is due |
@@ -51,6 +52,14 @@ pub fn chocola<F: Files, K: Sink + Send, E: Sink>(
                 trace,
             },
         ) => run_file(alloc, &file, limits, &trace, outside),
+        Ok(
+            Command::Schedule {
+                file,
+                schedule,
+                limits,
+                trace,
+            },
+        ) => schedule_file(alloc, &file, &schedule, limits, &trace, outside),
         Ok(Command::Replay { file, trace }) => { replay_file(alloc, &file, &trace, outside) }
         Ok(Command::Check { file }) => check_file(alloc, &file, outside),
         Err(WordsNo::Usage) => {

@@ -8,7 +8,7 @@ use Rattle.clap.specs.Simple.{on_top}
 use Rattle.std.specs.Str.{bytes_eq}
 use Rattle.clap.specs.Walk.{Row, first_of, is_empty}
 use Rattle.command_words.specs.Reading.{Word, Form, is_fit, is_equals}
-use Rattle.command_words.specs.Said.{run_form, run_of, replay_form, replay_of, check_form, check_of}
+use Rattle.command_words.specs.Said.{run_form, run_of, schedule_form, schedule_of, replay_form, replay_of, check_form, check_of}
 use Rattle.command_words.specs.declared.command.Command.{Command}
 
 -- a place, which has to have its word
@@ -41,8 +41,9 @@ with_settings app =
 -- all commands
 abbrev pub told : App
 told =
-    with_subcommand (with_subcommand (with_subcommand (with_settings (new_app (codes "chocola")))
+    with_subcommand (with_subcommand (with_subcommand (with_subcommand (with_settings (new_app (codes "chocola")))
     (told_command (codes "run") run_form).top)
+    (told_command (codes "schedule") schedule_form).top)
     (told_command (codes "replay") replay_form).top)
     (told_command (codes "check") check_form).top
 
@@ -64,6 +65,7 @@ is_readable word = is_fit word || option_map_or is_readable_option (behind_dashe
 abbrev pub command_named : Word → (Word → Option Word) → Option Command
 command_named title given =
     if bytes_eq (codes "run") title then run_of given
+    else if bytes_eq (codes "schedule") title then schedule_of given
     else if bytes_eq (codes "replay") title then replay_of given
     else if bytes_eq (codes "check") title then check_of given
     else None

@@ -6,13 +6,21 @@ use Rattle.serial_model.specs.Limits.{Budget, default_budget}
 use Rattle.command_words.specs.Number.{number_of}
 use Rattle.command_words.specs.Reading.{Word, Form, given_of, value_of}
 use Rattle.command_words.specs.declared.command.Command.{Command}
-use Rattle.command_words.specs.declared.command.Command.TheVariants.{Run, Replay, Check}
+use Rattle.command_words.specs.declared.command.Command.TheVariants.{Run, Schedule, Replay, Check}
 use Rattle.command_words.specs.declared.words_no.WordsNo.{WordsNo}
 use Rattle.command_words.specs.declared.words_no.WordsNo.TheVariants.{Usage, Memory}
 
--- `run FILE`, with `--fuel`, `--units` and `--trace`
+-- the options of what is run: `--fuel`, `--units` and `--trace`
+abbrev pub run_options : List Word
+run_options = codes "fuel" ∷ codes "units" ∷ codes "trace" ∷ []
+
+-- `run FILE`, with these options
 abbrev pub run_form : Form
-run_form = record { places = codes "file" ∷ []; options = codes "fuel" ∷ codes "units" ∷ codes "trace" ∷ [] }
+run_form = record { places = codes "file" ∷ []; options = run_options }
+
+-- `schedule FILE SCHEDULE`, with these options
+abbrev pub schedule_form : Form
+schedule_form = record { places = codes "file" ∷ codes "schedule" ∷ []; options = run_options }
 
 -- `replay FILE TRACE`
 abbrev pub replay_form : Form
@@ -47,6 +55,12 @@ run_of given =
     option_and_then (λ file. option_map (λ limits. Run file limits (given (codes "trace"))) (limits_of given))
     (given (codes "file"))
 
+-- the run by a schedule that is said by what its places and options are given
+abbrev pub schedule_of : (Word → Option Word) → Option Command
+schedule_of given =
+    option_and_then (λ file. option_and_then (λ schedule. option_map (λ limits. Schedule file schedule limits (given (codes "trace"))) (limits_of given))
+    (given (codes "schedule"))) (given (codes "file"))
+
 -- the replay that is said by what its places are given
 abbrev pub replay_of : (Word → Option Word) → Option Command
 replay_of given = option_and_then (λ file. option_map (Replay file) (given (codes "trace"))) (given (codes "file"))
@@ -64,6 +78,7 @@ abbrev pub command_of : List Word → Option Command
 command_of [] = None
 command_of (name ∷ words) =
     if bytes_eq (codes "run") name then said_by run_form run_of words
+    else if bytes_eq (codes "schedule") name then said_by schedule_form schedule_of words
     else if bytes_eq (codes "replay") name then said_by replay_form replay_of words
     else if bytes_eq (codes "check") name then said_by check_form check_of words
     else None

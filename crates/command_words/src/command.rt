@@ -10,6 +10,14 @@ pub enum Command {
         limits: Limits,
         trace: Option<Text>,
     },
+    /// The run of the program in `file`, within the limits, by the lines of the schedule in `schedule` and then to its end. Its
+    /// trace is written to `trace`, where that is named.
+    Schedule {
+        file: Text,
+        schedule: Text,
+        limits: Limits,
+        trace: Option<Text>,
+    },
     /// The replay of the run that `trace` holds, of the program in `file`.
     Replay {
         file: Text,

@@ -1,8 +1,8 @@
-ghost use Rattle.std.specs.Prelude.{◌≡◌, IfOk, codes, false};
+ghost use Rattle.std.specs.Prelude.{◌≡◌, IfOk, codes, false, map};
 ghost use Rattle.clap.specs.Words.{app_of, rule_of};
 ghost use Rattle.clap.specs.declared.builder.Command.TheViews.{out-Command};
-ghost use Rattle.command_words.specs.Parser.{told, told_command, told_option, told_place};
-ghost use Rattle.command_words.specs.Said.{check_form, replay_form, run_form};
+ghost use Rattle.command_words.specs.Parser.{told, told_command, told_option, told_place, with_rules};
+ghost use Rattle.command_words.specs.Said.{check_form, replay_form, run_form, run_options, schedule_form};
 
 use clap::{Arg, Command};
 use std::alloc::{AllocError, Global};
@@ -17,6 +17,7 @@ pub(crate) fn parser<'a>(alloc: Global) -> Result<Command<'a>, AllocError>
         .disable_help_subcommand(true)
         .subcommand_required(true)
         .subcommand(run(alloc)?)?
+        .subcommand(schedule(alloc)?)?
         .subcommand(replay(alloc)?)?
         .subcommand(check(alloc)?)
 }
@@ -25,11 +26,18 @@ fn run<'a>(alloc: Global) -> Result<Command<'a>, AllocError>
     ensures told { IfOk result (λ command. app_of command ≡ told_command (codes "run") run_form) }
     ensures local { IfOk result (λ command. (out-Command command).has_globals ≡ false) }
 {
-    Command::new(alloc, "run")
+    let command = Command::new(alloc, "run").arg(place(alloc, "file"))?;
+    with_run_options(alloc, command)
+}
+
+fn schedule<'a>(alloc: Global) -> Result<Command<'a>, AllocError>
+    ensures told { IfOk result (λ command. app_of command ≡ told_command (codes "schedule") schedule_form) }
+    ensures local { IfOk result (λ command. (out-Command command).has_globals ≡ false) }
+{
+    let command = Command::new(alloc, "schedule")
         .arg(place(alloc, "file"))?
-        .arg(option(alloc, "fuel"))?
-        .arg(option(alloc, "units"))?
-        .arg(option(alloc, "trace"))
+        .arg(place(alloc, "schedule"))?;
+    with_run_options(alloc, command)
 }
 
 fn replay<'a>(alloc: Global) -> Result<Command<'a>, AllocError>
@@ -46,6 +54,18 @@ fn check<'a>(alloc: Global) -> Result<Command<'a>, AllocError>
     ensures local { IfOk result (λ command. (out-Command command).has_globals ≡ false) }
 {
     Command::new(alloc, "check").arg(place(alloc, "file"))
+}
+
+/// The command with the options of what is run.
+fn with_run_options<'a>(alloc: Global, command: Command<'a>) -> Result<Command<'a>, AllocError>
+    requires { (out-Command command).has_globals ≡ false }
+    ensures told { IfOk result (λ given. app_of given ≡ with_rules (app_of command.entry) (map told_option run_options)) }
+    ensures local { IfOk result (λ given. (out-Command given).has_globals ≡ false) }
+{
+    command
+        .arg(option(alloc, "fuel"))?
+        .arg(option(alloc, "units"))?
+        .arg(option(alloc, "trace"))
 }
 
 /// A word that has to be there, in its place.

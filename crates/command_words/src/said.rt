@@ -1,7 +1,7 @@
 ghost use Rattle.std.specs.Prelude.{◌≡◌, ◌≤◌, ◌^◌, Some, IfOk, IfSome, IfNone};
 ghost use Rattle.clap.specs.Words.{first_value, found_of, subcommand_rows_of};
 ghost use Rattle.command_words.specs.Parser.{command_named, found_command};
-ghost use Rattle.command_words.specs.Said.{Reads, check_of, limits_of, number_or, replay_of, run_of};
+ghost use Rattle.command_words.specs.Said.{Reads, check_of, limits_of, number_or, replay_of, run_of, schedule_of};
 
 use crate::command::Command;
 use crate::number::number;
@@ -27,6 +27,7 @@ fn command_named(alloc: Global, name: &str, given: &ArgMatches<'_>) -> Result<Co
 {
     match name {
         "run" => run(alloc, given),
+        "schedule" => schedule(alloc, given),
         "replay" => replay(alloc, given),
         "check" => check(alloc, given),
         _ => Err(WordsNo::Usage),
@@ -42,6 +43,22 @@ fn run(alloc: Global, given: &ArgMatches<'_>) -> Result<Command, WordsNo>
     let limits = limits(given).ok_or(WordsNo::Usage)?;
     Ok(Command::Run {
         file,
+        limits,
+        trace,
+    })
+}
+
+/// The run by a schedule that these values say.
+fn schedule(alloc: Global, given: &ArgMatches<'_>) -> Result<Command, WordsNo>
+    ensures { Reads (schedule_of (first_value (found_of given.now))) result }
+{
+    let file = text(alloc, given, "file")?.ok_or(WordsNo::Usage)?;
+    let schedule = text(alloc, given, "schedule")?.ok_or(WordsNo::Usage)?;
+    let trace = text(alloc, given, "trace")?;
+    let limits = limits(given).ok_or(WordsNo::Usage)?;
+    Ok(Command::Schedule {
+        file,
+        schedule,
         limits,
         trace,
     })

@@ -28,6 +28,12 @@ fn line_of_command(alloc: Global, command: &Command) -> Result<String, AllocErro
             limits,
             trace,
         } => line_of_run(alloc, file, *limits, trace),
+        Command::Schedule {
+            file,
+            schedule,
+            limits,
+            trace,
+        } => line_of_schedule(alloc, file, schedule, *limits, trace),
         Command::Replay { file, trace } => line_of_replay(alloc, file, trace),
         Command::Check { file } => line_of_check(alloc, file),
     }
@@ -43,6 +49,18 @@ fn line_of_run(
     let trace = traced(alloc, trace)?;
     let (fuel, units) = (limits.fuel(), limits.units());
     format!(in alloc; "run {file} {fuel} {units} {trace}")
+}
+
+fn line_of_schedule(
+    alloc: Global,
+    file: &Text,
+    schedule: &Text,
+    limits: Limits,
+    trace: &Option<Text>,
+) -> Result<String, AllocError> {
+    let schedule = name_of(alloc, schedule)?;
+    let run = line_of_run(alloc, file, limits, trace)?;
+    format!(in alloc; "schedule {schedule}: {run}")
 }
 
 fn line_of_replay(alloc: Global, file: &Text, trace: &Text) -> Result<String, AllocError> {
@@ -107,6 +125,15 @@ fn reads(rt: HostRuntime) -> Result<(), Fail> {
             "run --trace fuel a=--fuel",
             "run a=--fuel 1000000 100000 fuel",
         ),
+        ("schedule a s", "schedule s: run a 1000000 100000 untraced"),
+        (
+            "schedule --units 7 s --trace=t --fuel=9 a",
+            "schedule a: run s 9 7 t",
+        ),
+        (
+            "schedule schedule run",
+            "schedule run: run schedule 1000000 100000 untraced",
+        ),
         ("replay a t", "replay a t"),
         ("replay t replay", "replay t replay"),
         ("check check", "check check"),
@@ -122,15 +149,15 @@ const UNKNOWN: &str = "\nhelp\nru a\nRun a\n--fuel=5 run a";
 
 /// An option comes twice or has no value.
 const OPTIONS: &str =
-    "run a --fuel 5 --fuel 5\nrun a --fuel=5 --fuel 6\nrun --trace t --trace=t a\nrun a --fuel\nrun a --trace";
+    "run a --fuel 5 --fuel 5\nrun a --fuel=5 --fuel 6\nrun --trace t --trace=t a\nrun a --fuel\nrun a --trace\nschedule a s --trace t --trace t\nschedule a s --units";
 
 /// A value or a word in a place is empty or begins with a dash.
 const VALUES: &str =
-    "run \nrun  a\nrun a --trace=\nrun a --trace \nrun --trace --fuel=5 a\nrun --trace -t a\nrun --trace=-t a\nrun --trace - a\nrun -\nrun --\nrun -- a\nrun -h\nrun --help\n--help\n-h\n--version\nrun --version a\nrun a --fue 5\nrun a --fuels 5\nrun a -fuel 5\nrun a --=5\nrun a --fuel -- 5\nreplay a --trace=t\nreplay a --trace t\ncheck --fuel=5 a";
+    "run \nrun  a\nrun a --trace=\nrun a --trace \nrun --trace --fuel=5 a\nrun --trace -t a\nrun --trace=-t a\nrun --trace - a\nrun -\nrun --\nrun -- a\nrun -h\nrun --help\n--help\n-h\n--version\nrun --version a\nrun a --fue 5\nrun a --fuels 5\nrun a -fuel 5\nrun a --=5\nrun a --fuel -- 5\nreplay a --trace=t\nreplay a --trace t\ncheck --fuel=5 a\nschedule a \nschedule -a s\nschedule a s --workers 1\nschedule a s --trace -t";
 
 /// Too few words, or too many.
 const COUNTS: &str =
-    "run\nrun --fuel 5\nrun a b\nrun a --fuel 5 6\nreplay a\nreplay a t u\ncheck\ncheck a b";
+    "run\nrun --fuel 5\nrun a b\nrun a --fuel 5 6\nreplay a\nreplay a t u\ncheck\ncheck a b\nschedule\nschedule a\nschedule a s t\nschedule a --trace s";
 
 /// No number, or one out of its range.
 const NUMBERS: &str =

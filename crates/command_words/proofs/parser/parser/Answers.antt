@@ -16,7 +16,9 @@ returns c =
     ∙ ap with_settings c.new.ensures.app in
     let with_run = c.in_ok-subcommand.ensures.shape c.in_ok-run.ensures.local
     ∙ ap₂ with_subcommand settled (ap (λ (a : App). a.top) c.in_ok-run.ensures.told) in
-    let with_replay = c.in_ok-subcommand-2.ensures.shape c.in_ok-replay.ensures.local
-    ∙ ap₂ with_subcommand with_run (ap (λ (a : App). a.top) c.in_ok-replay.ensures.told) in
-    IfOk-weaker c.subcommand-3.result _ _ (λ parser added. added.shape c.in_ok-check.ensures.local
-    ∙ ap₂ with_subcommand with_replay (ap (λ (a : App). a.top) c.in_ok-check.ensures.told)) c.subcommand-3.ensures
+    let with_schedule = c.in_ok-subcommand-2.ensures.shape c.in_ok-schedule.ensures.local
+    ∙ ap₂ with_subcommand with_run (ap (λ (a : App). a.top) c.in_ok-schedule.ensures.told) in
+    let with_replay = c.in_ok-subcommand-3.ensures.shape c.in_ok-replay.ensures.local
+    ∙ ap₂ with_subcommand with_schedule (ap (λ (a : App). a.top) c.in_ok-replay.ensures.told) in
+    IfOk-weaker c.subcommand-4.result _ _ (λ parser added. added.shape c.in_ok-check.ensures.local
+    ∙ ap₂ with_subcommand with_replay (ap (λ (a : App). a.top) c.in_ok-check.ensures.told)) c.subcommand-4.ensures

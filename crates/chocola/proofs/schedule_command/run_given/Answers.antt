@@ -1,0 +1,13 @@
+use Rattle.std.proofs.Common.{refl}
+use Rattle.chocola.proofs.Finishes.{Finished-unbegun}
+use Rattle.chocola.proofs.Stopped.{ProgramAnswers-stopped}
+use Rattle.chocola.proofs.schedule_command.run_given.Goals as goal
+
+pub returns-in-Ok-clause-reports : goal.returns-in-Ok-clause-reports
+returns-in-Ok-clause-reports g c = rw (c.deref.ensures, c.in-Ok.ensures.program) at c.run_world.ensures.reports
+
+pub returns-clause-answers : goal.returns-clause-answers
+returns-clause-answers g c =
+    let unrun = c.out_of_memory.ensures.outcome in
+    ProgramAnswers-stopped c.out_of_memory.result unrun.status _ c.args.trace.now _ _ unrun.detail unrun.end
+    (Finished-unbegun _ c.out_of_memory.result _ _ unrun.history unrun.status unrun.end refl)
