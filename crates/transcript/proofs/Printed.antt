@@ -1,10 +1,15 @@
 -- What a world has printed is what its history prints.
 use Rattle.std.proofs.Common.{◌≡◌, ◌∙◌, ℕ, List, length, refl, sym, ap, subst}
 use Rattle.std.specs.Prelude.{Some, drop}
+use Rattle.core_syntax.specs.Table.{Table}
+use Rattle.serial_model.specs.declared.entry.Entry.{Entry}
+use Rattle.serial_model.specs.Limits.{Budget}
 use Rattle.serial_model.specs.Replay.{replay}
 use Rattle.shared_world.specs.Shared.{Shared}
 use Rattle.shared_world.specs.Stands.{Stands}
 use Rattle.transcript.specs.Written.{IsBehind, IsPrinted}
+use Rattle.world_lock.proofs.Begun.{prefix_self}
+use Rattle.world_lock.specs.Later.{IsLater}
 
 pub printed : (s : Shared) → Stands s → (total : ℕ) → total ≡ length s.bytes → IsPrinted (s.setup.program, s.setup.limits) s.history total
 printed s st total is = record {
@@ -19,3 +24,13 @@ behind s st written rest is = record {
   replays = ap (replay s.setup) (sym st.seen.history) ∙ st.is_world.replays;
   rest_is = is ∙ ap (drop written) (sym st.seen.bytes ∙ st.is_world.stands.bytes);
 }
+
+-- what the lock sees of a world, and a world that stays
+abbrev pub setup_seen : Shared → Table × Budget
+setup_seen s = (s.setup.program, s.setup.limits)
+
+abbrev pub history_seen : Shared → List Entry
+history_seen s = s.history
+
+pub stays : (s : Shared) → IsLater setup_seen history_seen s s
+stays s = record { same_setup = refl; grown = prefix_self s.history }

@@ -2,7 +2,7 @@
 use Rattle.std.proofs.Common.{◌≡◌, ◌∙◌, ◌+◌, ◌≤◌, ℕ, List, ◌++◌, length, length-append, take, take_all, drop, le_refl, refl, sym, ap, subst, arith}
 use Rattle.std.proofs.lemmas.List.{length-drop, take-append-le}
 use Rattle.std.specs.Io.KnownBytes.{append_known}
-use Rattle.std.specs.Prelude.{Option, Some}
+use Rattle.std.specs.Prelude.{Option, Some, Result, Ok, Err, OnOk}
 use mathlib.Core.List.{IsPrefix}
 use Rattle.core_syntax.specs.Table.{Table}
 use Rattle.interleave_core.specs.Grown.{setup_of}
@@ -14,6 +14,11 @@ use Rattle.serial_model.specs.State.{State}
 use Rattle.transcript.specs.Written.{HasWritten, HasWrittenAll, IsBehind, IsPrinted, IsTaken, IsTakenWhole}
 use Rattle.world_io.proofs.TakenLemmas.{taken-more}
 use Rattle.world_lock.proofs.Begun.{prefix_self, prefix_trans}
+
+-- what holds where a call succeeded
+pub where-ok : {T E : Type 0} (r : Result T E) (P Q : Type 0) → (P → Q) → OnOk r P → OnOk r Q
+where-ok (Ok x) P Q f is = f is
+where-ok (Err e) P Q f is = is
 
 module _ (setup : Table × Budget) (start old new : Option (List ℕ)) (seen more : List Entry) (going : IsPrefix seen more) (written : ℕ) where
   pub longer-written : HasWritten setup start old written seen → HasWritten setup start old written more

@@ -1,9 +1,11 @@
 -- What a hold leaves is later than what was entered.
 use Rattle.std.proofs.Common.{◌≡◌, ◌∙◌, List, [], append-nil, refl, sym, ap, subst}
-use Rattle.std.specs.Prelude.{Some}
+use Rattle.std.specs.Prelude.{Some, Result, Ok, Err, IfOk, OnErr}
 use Rattle.core_syntax.specs.Table.{Table}
 use Rattle.interleave_core.specs.Back.{IsBack}
 use Rattle.interleave_core.specs.Claims.{IsAbandoned, IsClaimOn}
+use Rattle.interleave_core.specs.declared.error.ClaimNo.{ClaimNo}
+use Rattle.interleave_core.specs.declared.error.StepNo.{StepNo}
 use Rattle.interleave_core.specs.Grown.{IsDone}
 use Rattle.interleave_core.specs.Over.{IsRunOver}
 use Rattle.serial_model.specs.declared.entry.Entry.{Entry}
@@ -58,3 +60,12 @@ over-done old new setup is over same = subst (λ s. IsDone s new.history) is (su
   replays = over.1.replays;
   over = over.1.over;
 }))
+
+-- whatever a claim and a return answer
+pub claims-later : (old new : Shared) (found : Result Lent ClaimNo) → IfOk found (λ lent. IsClaimOn lent.piece old lent new) → OnErr found (IsSameBut old new) → IsLater setup_seen history_seen old new
+claims-later old new (Ok lent) is same = claimed-later old new lent.piece lent is
+claims-later old new (Err why) is same = same-later old new same
+
+pub gives-later : (old new : Shared) (r : Returned) (answer : Result Given StepNo) → IfOk answer (λ given. Gave old r given new) → OnErr answer (IsBack old r new) → IsLater setup_seen history_seen old new
+gives-later old new r (Ok given) is back = gave-lock-later old new r given is
+gives-later old new r (Err why) is back = back-later old new r back

@@ -1,6 +1,9 @@
 use denote.Param.Send.{sendable}
+use Rattle.std.proofs.Common.{◌∙◌, subst, sym}
 use Rattle.interleave_core.proofs.Crossing.{world_send}
 use Rattle.transcript.proofs.behind.bytes_behind.Goals as goal
+use Rattle.transcript.proofs.Printed.{history_seen, setup_seen, stays}
+use Rattle.world_lock.specs.Later.{IsLater}
 
 pub enter-turn-requires-send-T : goal.enter-turn-requires-send-T
 enter-turn-requires-send-T g c κs within = search (world_send, sendable) depth 20
@@ -12,4 +15,5 @@ pub leave-requires-send-T : goal.leave-requires-send-T
 leave-requires-send-T g c κs = search (world_send, sendable) depth 20
 
 pub leave-requires-clause-later : goal.leave-requires-clause-later
-leave-requires-clause-later g c κs within = ?
+leave-requires-clause-later g c = λ _.
+    subst (λ w. IsLater setup_seen history_seen w c.value-world.result.now) (c.value-world.ensures.value ∙ sym c.enter-turn.ensures.entered) (stays c.value-world.result.now)
