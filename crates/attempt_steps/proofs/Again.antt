@@ -1,6 +1,5 @@
 -- What follows what is the same but for room, of tasks.
-use Rattle.std.proofs.Common.{◌≡◌, ◌∙◌, Bool, true, false, cond, refl, sym, ap, subst}
-use Rattle.std.specs.Option.{option_and_then, option_map}
+use Rattle.std.proofs.Common.{◌≡◌, ◌∙◌, cond, refl, sym, ap}
 use Rattle.std.specs.Prelude.{None, Option, Some, is_some, not, ◌&&◌, ◌||◌}
 use Rattle.ref_store.specs.declared.version.Version.{Version}
 use Rattle.ref_store.specs.Store.{versions_of}
@@ -9,7 +8,7 @@ use Rattle.shared_world.specs.declared.given.Given.{Given}
 use Rattle.shared_world.specs.Gave.{gone_with}
 use Rattle.shared_world.specs.rows.Attempts.{Aborts, AttemptGoes, Commits}
 use Rattle.shared_world.specs.rows.Pieces.{ClaimsEnd, IsSet, but_gone, task_gone}
-use Rattle.shared_world.specs.rows.Tasks.{AfterStep, Conflicts, EndGives, Forked, IsMarkedTask, Missing, RootGives, StepGives, conflicts, valid}
+use Rattle.shared_world.specs.rows.Tasks.{AfterStep, EndGives, Forked, IsMarkedTask, Missing, RootGives, StepGives, conflicts, valid}
 use Rattle.shared_world.specs.Shared.{Shared, claimed}
 use Rattle.task_fork_join.specs.Attempt.{Attempt}
 use Rattle.task_fork_join.specs.declared.stepped.Stepped.{Stepped}
@@ -21,7 +20,7 @@ use Rattle.unit_table.specs.declared.mark.Mark.{Mark}
 use Rattle.unit_table.specs.declared.piece.Piece.{Piece}
 use Rattle.unit_table.specs.declared.unit.Unit.{Unit}
 use Rattle.unit_table.specs.Piece.{beside}
-use Rattle.value_core.specs.Named.{Name, is_among, named, same_name}
+use Rattle.value_core.specs.Named.{Name, named, same_name}
 
 module _ (base : Shared) (b : Board) (same : SamePieces base.board b) where
   abbrev mid : Shared
@@ -64,7 +63,10 @@ module _ (base : Shared) (b : Board) (same : SamePieces base.board b) where
     done = row.done;
     unit = row.unit;
     stands = row.stands;
-    goes = goes-again u row.unit tree new row.goes;
+    board = row.board;
+    goes = goes-again u row.unit tree (record new { board = row.board }) row.goes;
+    acts = record { none = λ a actor made. sym (same a) ∙ row.acts.none a actor made; pieces = row.acts.pieces };
+    mails = row.mails;
     versions = row.versions;
     others = row.others;
   }

@@ -1,8 +1,8 @@
 -- Attempts whose root is at its end.
-use Rattle.std.proofs.Common.{◌≡◌, ◌∙◌, ℕ, true, false, refl, sym, ap, subst}
-use Rattle.std.specs.Prelude.{All, Err, IfSome, None, Ok, Option, Result, Some}
+use Rattle.std.proofs.Common.{◌≡◌, ◌∙◌, true, false, sym, ap, subst}
+use Rattle.std.specs.Prelude.{Err, IfSome, None, Ok, Option, Result, Some}
 use Rattle.std.specs.declared.alloc.AllocError.{AllocError}
-use Rattle.attempt_steps.proofs.Ending.{goes-end}
+use Rattle.attempt_steps.proofs.Ending.{acts-stay, goes-end, stays-itself}
 use Rattle.attempt_steps.specs.declared.deciding.Changed.{Changed}
 use Rattle.attempt_steps.specs.Deciding.{CommitsOr, DecidedOr, IsTrying, IsValidated, SettledOr}
 use Rattle.attempt_steps.specs.Gone.{GoneEnd}
@@ -18,12 +18,9 @@ use Rattle.shared_world.specs.Shared.{Shared, is_going}
 use Rattle.task_fork_join.specs.Attempt.{Attempt, end_at}
 use Rattle.task_fork_join.specs.declared.task_end.TaskEnd.{TaskEnd}
 use Rattle.task_fork_join.specs.declared.task_end.TaskEnd.TheVariants as end
-use Rattle.txn_commit.specs.Conflict.{IsUnchanged}
-use Rattle.unit_table.specs.Board.{unit_at}
-use Rattle.unit_table.specs.declared.unit.Unit.{Unit}
 use Rattle.value_core.specs.declared.code.Code.{Code}
 use Rattle.value_core.specs.declared.value.Value.{Value}
-use Rattle.value_core.specs.Named.{Name, Named, named}
+use Rattle.value_core.specs.Named.{Name, named}
 use Rattle.value_core.specs.Place.{Spot}
 
 -- what holds of the attempt that is there
@@ -47,7 +44,7 @@ decided-abort old new owner c (Ok found) trying changed r = record {
   claims =
       let has = trying.has in
       let row = r.row has.unit has.tree has.there has.attempt in
-      goes-end old new owner row.unit has.tree (ap (λ (s : Shared). s.end) row.others) trying.free row.goes (r.claims has.tree has.attempt);
+      goes-end old new new.board owner row.unit has.tree (ap (λ (s : Shared). s.end) row.others) trying.free row.goes (stays-itself old.board new.board) (r.claims has.tree has.attempt);
 }
 
 -- no conflict
@@ -70,7 +67,7 @@ settled-commit old new owner v (Ok found) trying is r = record {
   claims =
       let has = trying.has in
       let row = r.row has.unit has.tree has.there has.attempt in
-      goes-end old new owner row.unit has.tree (ap (λ (s : Shared). s.end) row.others) trying.free row.goes (r.claims has.tree has.attempt);
+      goes-end old new row.board owner row.unit has.tree (ap (λ (s : Shared). s.end) row.others) trying.free row.goes (acts-stay row.log.log.effects old new row.board row.acts) (r.claims has.tree has.attempt);
 }
 
 none-ends : (old new : Shared) (owner : Name) (e : End) (found : Given) → Ends old owner e found new → GoneEnd old new

@@ -1,18 +1,24 @@
 -- Tasks that have ended, in an attempt whose root has.
-use Rattle.std.proofs.Common.{◌≡◌, ◌∙◌, true, refl, sym, ap, subst}
-use Rattle.std.specs.Option.{option_and_then, option_map}
+use Rattle.std.proofs.Common.{◌≡◌, true, false, refl, sym, subst}
+use Rattle.std.specs.Option.{option_map}
 use Rattle.std.specs.Prelude.{Err, IfSome, None, Ok, Option, Result, Some, is_some}
 use Rattle.std.specs.declared.alloc.AllocError.{AllocError}
+use Rattle.eval_step.specs.Evaluation.{Evaluation}
+use Rattle.serial_model.specs.declared.halt.Halt.{Halt}
 use Rattle.shared_world.specs.declared.given.Given.{Given}
+use Rattle.shared_world.specs.Gave.{GaveTask}
 use Rattle.shared_world.specs.rows.Tasks.{TaskGives}
-use Rattle.shared_world.specs.Shared.{Shared, kept_machine, machine_in}
+use Rattle.shared_world.specs.Shared.{Shared}
 use Rattle.task_fork_join.specs.Attempt.{Attempt, end_at, machine_of, next_made_at}
 use Rattle.task_fork_join.specs.declared.task.Task.{Task}
 use Rattle.task_fork_join.specs.declared.task_end.TaskEnd.{TaskEnd}
 use Rattle.value_core.specs.Named.{Name, made_by, named}
 use Rattle.attempt_steps.proofs.Decided.{at-attempt}
 use Rattle.attempt_steps.proofs.Ending.{decided-ends}
-use Rattle.attempt_steps.specs.Tasks.{DecidedOrWaits, IsOwned, IsTaskIn, TaskCame}
+use Rattle.attempt_steps.proofs.Wanting.{settling-wanting}
+use Rattle.shared_world.specs.Stands.{Stands}
+use Rattle.attempt_steps.specs.Deciding.{HasDecided}
+use Rattle.attempt_steps.specs.Tasks.{DecidedOrWaits, IsOwned, IsTaskIn, IsTaskOf, TaskCame}
 use Rattle.attempt_steps.specs.Undoing.{HasAttempt}
 
 among-made : (tree : Attempt) (task next : Name) → next_made_at tree task ≡ Some next → is_some (named task tree.tasks) ≡ true
@@ -26,23 +32,44 @@ some-end : (o : Option TaskEnd) → true ≡ is_some o → (P : Type 0) → ((e 
 some-end None is P all = cc
 some-end (Some e) is P all = all e refl
 
-pub settled-task : (old new : Shared) (owner task next : Name) (result : Result Given AllocError) → IsOwned old task owner → kept_machine old task ≡ None → IfSome (named owner old.attempts) (λ tree. next_made_at tree task ≡ Some next)
+-- a root that is not at its end
+pub open-of : (o : Option Attempt) → IfSome o (λ tree. false ≡ is_some (end_at tree)) → IfSome o (λ tree. end_at tree ≡ None)
+open-of None is = is
+open-of (Some tree) is = on (end_at tree) refl is
+  where
+    on : (e : Option TaskEnd) → end_at tree ≡ e → false ≡ is_some e → end_at tree ≡ None
+    on None so e = so
+    on (Some ended) so e = cc
+
+-- what comes of the attempt of a task, whose root is at its end
+pub ended-came : (old new : Shared) (owner task : Name) (tree : Attempt) (e : TaskEnd) (found : Given) → IsTaskIn old owner task tree → named task old.owners ≡ Some owner → end_at tree ≡ Some e → HasDecided old owner new found → GaveTask old task found new
+ended-came old new owner task tree e found is of ended r = record {
+  owner = owner;
+  unit = is.unit;
+  tree = tree;
+  mark = is.mark;
+  there = is.there;
+  of = of;
+  unit_there = is.unit_there;
+  attempt = is.attempt;
+  gives = subst (λ o. TaskGives old owner is.unit task tree o (machine_of tree task) found new) (sym ended) (r.row is.unit tree e is.unit_there is.attempt ended);
+  claims = decided-ends old new owner task is.unit tree e found is (r.row is.unit tree e is.unit_there is.attempt ended) r.claims;
+}
+
+-- so it is for a task that goes on
+pub step-ended : (old new : Shared) (owner task : Name) (moved : Evaluation) (h : Halt) (result : Result Given AllocError) → Stands old → IsTaskOf old owner task moved h → IfSome (named owner old.attempts) (λ tree. true ≡ is_some (end_at tree))
+    → DecidedOrWaits old owner task new result → TaskCame old task new result
+step-ended old new owner task moved h (Err e) st is ended r = settling-wanting old new task is.task_in.mark st is.task_in.there r
+step-ended old new owner task moved h (Ok found) st is ended r =
+    some-end (end_at is.tree) (at-attempt (named owner old.attempts) (λ (t : Attempt). true ≡ is_some (end_at t)) is.tree is.task_in.attempt ended) (TaskCame old task new (Ok found))
+    (λ e so. ended-came old new owner task is.tree e found is.task_in is.of so r)
+
+pub settled-task : (old new : Shared) (owner task next : Name) (result : Result Given AllocError) → Stands old → IsOwned old task owner → IfSome (named owner old.attempts) (λ tree. next_made_at tree task ≡ Some next)
     → IfSome (named owner old.attempts) (λ tree. true ≡ is_some (end_at tree)) → DecidedOrWaits old owner task new result → TaskCame old task new result
-settled-task old new owner task next (Err e) owned none made ended r = r
-settled-task old new owner task next (Ok found) owned none made ended r =
+settled-task old new owner task next (Err e) st owned made ended r = settling-wanting old new task owned.at.mark st owned.at.there r
+settled-task old new owner task next (Ok found) st owned made ended r =
     some-end (end_at has.tree) (at-attempt (named owner old.attempts) (λ (t : Attempt). true ≡ is_some (end_at t)) has.tree has.attempt ended) (TaskCame old task new (Ok found))
-    (λ e is. (record {
-      owner = owner;
-      unit = has.unit;
-      tree = has.tree;
-      mark = owned.at.mark;
-      there = owned.at.there;
-      of = owned.of;
-      unit_there = has.there;
-      attempt = has.attempt;
-      gives = subst (λ m. TaskGives old owner has.unit task has.tree m found new) (sym no_machine) (record { ended = e; is_ended = is; comes = r.row has.unit has.tree e has.there has.attempt is });
-      claims = decided-ends old new owner task has.unit has.tree e found task_in (r.row has.unit has.tree e has.there has.attempt is) r.claims;
-    }))
+    (λ e is. ended-came old new owner task has.tree e found task_in owned.of is r)
   where
     has : HasAttempt old owner
     has = owned.trying.has
@@ -57,10 +84,3 @@ settled-task old new owner task next (Ok found) owned none made ended r =
       among = among-made has.tree task next (at-attempt (named owner old.attempts) (λ (t : Attempt). next_made_at t task ≡ Some next) has.tree has.attempt made);
       free = owned.trying.free;
     }
-
-    no_machine : machine_of has.tree task ≡ None
-    no_machine =
-        sym (ap (option_and_then (machine_in old task)) owned.at.there
-        ∙ ap (λ o. option_and_then (λ (t : Attempt). machine_of t task) (option_and_then (λ (u : Name). named u old.attempts) o)) owned.of
-        ∙ ap (option_and_then (λ (t : Attempt). machine_of t task)) has.attempt)
-        ∙ none

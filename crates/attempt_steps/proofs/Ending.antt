@@ -1,13 +1,19 @@
 -- Claims on what is gone.
-use Rattle.std.proofs.Common.{◌≡◌, ◌∙◌, Bool, true, false, cond, refl, sym, ap, subst}
+use Rattle.std.proofs.Common.{◌≡◌, ◌∙◌, Bool, true, false, cond, List, [], ◌∷◌, refl, sym, ap}
+use Rattle.std.specs.Option.{option_map}
 use Rattle.std.specs.Prelude.{None, Option, Some, is_some, not, ◌&&◌, ◌||◌, if◌then◌else◌}
+use Rattle.actor_mails.specs.Mails.{mail_at}
 use Rattle.attempt_steps.specs.Gone.{GoneEnd, IsFree}
 use Rattle.attempt_steps.specs.Tasks.{IsTaskIn}
 use Rattle.world_steps.proofs.Settling.{claims-end}
+use Rattle.serial_model.specs.declared.actor_state.ActorState.{ActorState}
+use Rattle.serial_model.specs.declared.effect.Effect.{Effect}
+use Rattle.serial_model.specs.Sends.{effects_to}
 use Rattle.shared_world.proofs.Live.{unit-piece}
 use Rattle.shared_world.specs.declared.given.Given.{Given}
 use Rattle.shared_world.specs.Gave.{gone_with, is_gone}
-use Rattle.shared_world.specs.rows.Attempts.{AttemptGoes}
+use Rattle.shared_world.specs.rows.Actors.{acted, roused, spawned}
+use Rattle.shared_world.specs.rows.Attempts.{ActorsAct, AttemptGoes}
 use Rattle.shared_world.specs.rows.Pieces.{ClaimsEnd, IsSet, but_gone, is_task, piece_or_task, task_gone}
 use Rattle.shared_world.specs.rows.Tasks.{EndGives, RootGives, conflicts, valid}
 use Rattle.shared_world.specs.Shared.{Shared, claimed, is_going}
@@ -22,6 +28,7 @@ use Rattle.unit_table.specs.declared.unit.Unit.{Unit}
 use Rattle.unit_table.specs.Piece.{beside, says_finished, woken}
 use Rattle.value_core.proofs.NamedLaws.{same_name-equal, same_name-itself}
 use Rattle.value_core.specs.declared.ticket.Ticket.{Ticket}
+use Rattle.value_core.specs.declared.value.Value.{Value}
 use Rattle.value_core.specs.Named.{Name, named, same_name}
 
 -- what stands is there still
@@ -79,9 +86,38 @@ marked-ends task old new same none unlent = one-ends task old new none (claims-e
 claimed-going : (s : Shared) (ticket : Ticket) → is_going s.end ≡ true → claimed s ticket ≡ lent_to s.board ticket
 claimed-going s ticket going = ap (λ g. if g then lent_to s.board ticket else None) going
 
+-- what stood there stands there now where it did in between
+abbrev pub StaysThere : Board → Board → Board → Type 0
+StaysThere old mid new = (q : Name) → is_some (piece_at old q) ≡ true → is_some (piece_at new q) ≡ is_some (piece_at mid q)
+
+pub stays-itself : (old new : Board) → StaysThere old new new
+stays-itself old new q some = refl
+
+-- so it does where actors have acted
+pub acts-stay : (effects : List Effect) (old new : Shared) (board : Board) → ActorsAct effects old board new → StaysThere old.board board new.board
+acts-stay effects old new board acts q some = ap is_some (acts.pieces q) ∙ on (spawned effects q) (effects_to q effects) refl
+  where
+    roused-there : (found : Option Piece) → is_some (option_map roused found) ≡ is_some found
+    roused-there None = refl
+    roused-there (Some p) = refl
+
+    on : (made : Option ActorState) (sent : List (List Value)) → spawned effects q ≡ made → is_some (acted made sent (mail_at new.mails q) (piece_at board q)) ≡ is_some (piece_at board q)
+    on (Some state) sent is = let no : false ≡ true = sym (ap is_some (acts.none q state is)) ∙ some in cc
+    on None [] is = refl
+    on None (args ∷ more) is = roused-there (piece_at board q)
+
+-- what is gone was gone in between
+gone-stays : (old mid new : Board) → StaysThere old mid new → (q : Name) → is_gone old mid q ≡ is_gone old new q
+gone-stays old mid new stays q = on (is_some (piece_at old q)) refl
+  where
+    on : (c : Bool) → is_some (piece_at old q) ≡ c → (c && not (is_some (piece_at mid q))) ≡ (c && not (is_some (piece_at new q)))
+    on true is = ap not (sym (stays q is))
+    on false is = refl
+
 -- an attempt that goes ends the claims on what is gone
-pub goes-end : (old new : Shared) (owner : Name) (y : Unit) (tree : Attempt) → new.end ≡ old.end → IsFree old.board owner → AttemptGoes old owner y tree new → ClaimsEnd (piece_or_task old.board owner tree) old new → GoneEnd old new
-goes-end old new owner y tree same free goes ends going ticket = ends going ticket ∙ on (claimed old ticket) refl
+pub goes-end : (old new : Shared) (board : Board) (owner : Name) (y : Unit) (tree : Attempt) → new.end ≡ old.end → IsFree old.board owner → AttemptGoes old owner y tree (record new { board = board }) → StaysThere old.board board new.board
+    → ClaimsEnd (piece_or_task old.board owner tree) old new → GoneEnd old new
+goes-end old new board owner y tree same free goes stays ends going ticket = ends going ticket ∙ on (claimed old ticket) refl
   where
     old_going : is_going old.end ≡ true
     old_going = sym (ap is_going same) ∙ going
@@ -96,7 +132,8 @@ goes-end old new owner y tree same free goes ends going ticket = ends going tick
 
     at : (q : Name) (c : Bool) → same_name q owner ≡ c → claimed old ticket ≡ Some q → cond (c || (is_some (named q tree.tasks) && is_task (piece_at old.board q))) None (Some q) ≡ cond (is_gone old.board new.board q) None (Some q)
     at q true e is = absurd (free ticket (sym (claimed-going old ticket old_going) ∙ is ∙ ap Some (same_name-equal q owner e)))
-    at q false e is = ap (λ c. cond c None (Some q)) (by (is_some (named q tree.tasks)) (piece_at old.board q) (piece_at new.board q) (goes.tasks.others q (apart q owner e)))
+    at q false e is =
+        ap (λ c. cond c None (Some q)) (by (is_some (named q tree.tasks)) (piece_at old.board q) (piece_at board q) (goes.tasks.others q (apart q owner e)) ∙ gone-stays old.board board new.board stays q)
 
     on : (found : Option Name) → claimed old ticket ≡ found → but_gone (piece_or_task old.board owner tree) found ≡ but_gone (is_gone old.board new.board) found
     on None is = refl
@@ -121,7 +158,9 @@ decided-ends old new owner task x tree ended found is gives ends going ticket = 
     here = by gives
       where
         by-end : (e : TaskEnd) → EndGives old owner x tree e found new → is_gone old.board new.board task ≡ true
-        by-end (end.Value v) row = task-goes old new owner task row.unit tree is row.goes
+        by-end (end.Value v) row =
+            sym (gone-stays old.board row.board new.board (acts-stay row.log.log.effects old new row.board row.acts) task)
+            ∙ task-goes old (record new { board = row.board }) owner task row.unit tree is row.goes
         by-end (end.Fault code at) row = let no : false ≡ true = sym (ap (λ (s : Shared). is_going s.end) row.others) ∙ going in cc
         by-end end.Spent row = let no : false ≡ true = sym (ap (λ (s : Shared). is_going s.end) row.others) ∙ going in cc
 

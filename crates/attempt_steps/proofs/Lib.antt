@@ -1,10 +1,13 @@
 pub mod Aborting
 pub mod Again
+pub mod Children
 pub mod Committing
 pub mod Decided
+pub mod Effects
 pub mod Ended
 pub mod Ending
 pub mod Gone
+pub mod Letters
 pub mod Live
 pub mod Stepped
 pub mod Taking

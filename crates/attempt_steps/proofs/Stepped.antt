@@ -9,7 +9,7 @@ use Rattle.serial_model.specs.declared.request.Request.TheVariants as request
 use Rattle.task_fork_join.proofs.KeptTasks.{acted_keeps, close_keeps, ended_keeps, fork_keeps, join_keeps}
 use Rattle.task_fork_join.specs.Attempt.{AreTasks, Attempt, IsKept}
 use Rattle.task_fork_join.specs.declared.stepped.Stepped.{Stepped}
-use Rattle.task_fork_join.specs.Step.{Asks, Comes, IsStep}
+use Rattle.task_fork_join.specs.Step.{Asks, Comes}
 use Rattle.task_fork_join.specs.Stepping.{IsActed}
 use Rattle.value_core.specs.declared.value.Value.{Value}
 use Rattle.value_core.specs.Named.{Name, named}

@@ -1,29 +1,27 @@
 -- Steps of tasks, and what comes of them.
-use Rattle.std.proofs.Common.{◌≡◌, ◌∙◌, Bool, true, false, ℕ, cond, inl, inr, refl, sym, ap, subst}
-use Rattle.std.specs.Option.{IsSome, option_and_then}
+use Rattle.std.proofs.Common.{◌≡◌, ◌∙◌, Bool, true, false, ℕ, cond, refl, sym, ap, subst}
+use Rattle.std.specs.Option.{IsSome}
 use Rattle.std.specs.Prelude.{Err, IfOk, IfSome, None, Ok, OnErr, Option, Result, Some, is_err, is_some}
 use Rattle.std.specs.declared.alloc.AllocError.{AllocError}
 use Rattle.eval_step.specs.Evaluation.{Evaluation}
 use Rattle.attempt_steps.proofs.Decided.{at-attempt}
-use Rattle.attempt_steps.proofs.Ending.{NoneGone, decided-ends, goes-end, marked-ends, put-keeps, set-keeps, undone-ends}
-use Rattle.world_steps.proofs.Forking.{same-stands}
-use Rattle.attempt_steps.proofs.Wanting.{same-wanting}
+use Rattle.attempt_steps.proofs.Ending.{NoneGone, decided-ends, goes-end, marked-ends, put-keeps, set-keeps, stays-itself, undone-ends}
 use Rattle.attempt_steps.specs.declared.tasks.Child.{Child}
 use Rattle.attempt_steps.specs.Deciding.{DecidedOr, IsTrying}
-use Rattle.world_steps.specs.Kept.{IsSameBut}
-use Rattle.attempt_steps.specs.Tasks.{ComesAfter, DecidedOrWaits, HasMissed, ForksTask, HasForkedTask, HasStepped, IfNewest, IsTaskAt, IsTaskIn, IsWanting, MissesOr, TaskMarked, TaskWaits}
+use Rattle.attempt_steps.specs.Tasks as tasks
+use Rattle.attempt_steps.specs.Tasks.{ComesAfter, DecidedOrWaits, HasMissed, HasForkedTask, HasRoomFor, HasStepped, IfNewest, IsOfStep, IsRoomFor, IsTaskAt, IsTaskIn, MissesOr, TaskMarked, TaskWaits}
 use Rattle.attempt_steps.specs.Undoing.{AbortsOr}
 use Rattle.ref_store.specs.declared.version.Version.{Version}
 use Rattle.ref_store.specs.Store.{versions_of}
 use Rattle.ref_store.specs.Version.{newest}
 use Rattle.serial_model.specs.declared.halt.Halt.{Halt}
-use Rattle.shared_world.proofs.Live.{no-unit}
-use Rattle.shared_world.proofs.Steps.{marked-task}
 use Rattle.shared_world.specs.declared.given.Given.{Given}
 use Rattle.shared_world.specs.Gave.{gone_with}
 use Rattle.shared_world.specs.rows.Attempts.{Aborts, AttemptGoes}
 use Rattle.shared_world.specs.rows.Pieces.{ClaimsEnd}
 use Rattle.shared_world.specs.rows.Tasks.{AfterStep, Missing}
+use Rattle.task_fork_join.specs.Stepping.{is_held_back}
+use Rattle.world_steps.specs.declared.kept.Kept.{Kept}
 use Rattle.shared_world.specs.Shared.{Shared}
 use Rattle.shared_world.specs.Stands.{Stands}
 use Rattle.task_fork_join.specs.Attempt.{Attempt, end_at}
@@ -32,10 +30,9 @@ use Rattle.task_fork_join.specs.declared.stepped.Stepped.TheVariants as stepped
 use Rattle.task_fork_join.specs.declared.task_end.TaskEnd.{TaskEnd}
 use Rattle.task_fork_join.specs.Step.{IsStep}
 use Rattle.txn_snapshot.specs.SnapshotAnswer.{snapshot_of}
-use Rattle.unit_table.specs.Board.{but_for, lent_to, piece_at, unit_at}
+use Rattle.unit_table.specs.Board.{but_for, lent_to}
 use Rattle.unit_table.specs.declared.mark.Mark.TheVariants as mark
 use Rattle.unit_table.specs.declared.mark.Work.TheVariants as work
-use Rattle.unit_table.specs.declared.piece.Piece.TheVariants as piece
 use Rattle.unit_table.specs.declared.unit.Unit.{Unit}
 use Rattle.value_core.proofs.NamedLaws.{same_name-equal}
 use Rattle.value_core.specs.declared.value.Value.{Value}
@@ -73,7 +70,7 @@ missed old new owner ref number (Ok found) trying is r = record {
   claims =
       let has = trying.has in
       let row = r.row has.unit has.tree has.there has.attempt in
-      goes-end old new owner row.unit has.tree (ap (λ (s : Shared). s.end) row.others) trying.free row.goes (r.claims has.tree has.attempt);
+      goes-end old new new.board owner row.unit has.tree (ap (λ (s : Shared). s.end) row.others) trying.free row.goes (stays-itself old.board new.board) (r.claims has.tree has.attempt);
 }
   where
     on : (v : Option Version) → IfNewest v number → (x : Unit) (tree : Attempt) → Aborts old owner x tree ref number found new → Missing old owner x tree ref v found new
@@ -85,11 +82,11 @@ pub decided-waits : (old mid new : Shared) (owner task : Name) (result : Result 
     → DecidedOrWaits old owner task new result
 decided-waits old mid new owner task (Ok found) err st at decided marked = cc
 decided-waits old mid new owner task (Err e) err st at same marked = record {
-  stands = marked-task mid (same-stands old mid st same) task (mark.Ready work.Settle) new (no-unit mid.board task at.mark (same.pieces task ∙ at.there)) marked.marked;
-  here = inr marked.marked.set.here;
-  others = λ other ne. marked.marked.set.others other ne ∙ same.pieces other;
+  marked = record {
+    set = record { here = marked.marked.set.here; others = λ other ne. marked.marked.set.others other ne ∙ same.pieces other };
+    others = marked.marked.others ∙ ap (λ (s : Shared). record s { board = new.board }) same.rest;
+  };
   claims = λ ticket free. marked.unlent.to ticket ∙ ap (but_for task) (same.claims.to ticket) ∙ on (lent_to old.board ticket) free;
-  rest = marked.marked.others ∙ ap (λ (s : Shared). record s { board = new.board }) same.rest ∙ ap (λ a. record old { attempts = a; board = new.board }) (sym (ap (λ (s : Shared). s.attempts) (marked.marked.others ∙ ap (λ (s : Shared). record s { board = new.board }) same.rest)));
 }
   where
     by : (q : Name) (c : Bool) → same_name q task ≡ c → (Some q ≡ Some task → ⊥) → cond c None (Some q) ≡ Some q
@@ -111,7 +108,7 @@ no-end (Some e) is P none = cc
 -- the root is at its end
 pub after-ended : (old new : Shared) (owner task : Name) (went : Stepped) (result : Result Given AllocError) → HasTask old owner task → IfSome (named owner old.attempts) (λ tree. true ≡ is_some (end_at tree)) → DecidedOrWaits old owner task new result
     → ComesAfter old owner task went new result
-after-ended old new owner task went (Err e) has ended r = r
+after-ended old new owner task went (Err e) has ended r = tasks.settles ended r
 after-ended old new owner task went (Ok found) has ended r = record {
   row = λ x tree there attempt.
       some-end (end_at tree) (at-attempt (named owner old.attempts) (λ (t : Attempt). true ≡ is_some (end_at t)) tree attempt ended) (λ e. AfterStep old owner x task tree went e found new) (λ e is. r.row x tree e there attempt is);
@@ -123,7 +120,7 @@ after-ended old new owner task went (Ok found) has ended r = record {
 -- it is not, and the task waits
 pub after-waits : (old new : Shared) (owner task future : Name) (went : Stepped) (result : Result Given AllocError) → Stands old → HasTask old owner task → IfSome (named owner old.attempts) (λ tree. false ≡ is_some (end_at tree)) → went ≡ stepped.WaitJoin future
     → TaskWaits old task future new result → ComesAfter old owner task went new result
-after-waits old new owner task future went (Err e) st has going is r = same-wanting old new task st r
+after-waits old new owner task future went (Err e) st has going is r = tasks.waits (ap is_held_back is) r
 after-waits old new owner task future went (Ok found) st has going is r = record {
   row = λ x tree there attempt.
       no-end (end_at tree) (at-attempt (named owner old.attempts) (λ (t : Attempt). false ≡ is_some (end_at t)) tree attempt going) (λ e. AfterStep old owner x task tree went e found new)
@@ -139,7 +136,7 @@ record Goes (old : Shared) (owner : Name) (tree : Attempt) (new : Shared) : Type
 -- it is not, and the snapshot does not have the ref
 pub after-misses : (old new : Shared) (owner task ref : Name) (went : Stepped) (result : Result Given AllocError) → Stands old → HasTask old owner task → IfSome (named owner old.attempts) (λ tree. false ≡ is_some (end_at tree))
     → went ≡ stepped.NotInSnapshot ref → MissesOr old owner ref new result → ComesAfter old owner task went new result
-after-misses old new owner task ref went (Err e) st has going is r = same-wanting old new task st r
+after-misses old new owner task ref went (Err e) st has going is r = tasks.waits (ap is_held_back is) r
 after-misses old new owner task ref went (Ok found) st has going is r = record {
   row = λ x tree there attempt.
       no-end (end_at tree) (at-attempt (named owner old.attempts) (λ (t : Attempt). false ≡ is_some (end_at t)) tree attempt going) (λ e. AfterStep old owner x task tree went e found new)
@@ -152,10 +149,9 @@ after-misses old new owner task ref went (Ok found) st has going is r = record {
     gone (Some version) row = record { unit = row.unit; goes = row.goes }
 
 -- it is not, and the task forks
-pub after-forks : (old new : Shared) (owner task future : Name) (went : Stepped) (result : Result Given AllocError) → Stands old → HasTask old owner task → IfSome (named owner old.attempts) (λ tree. false ≡ is_some (end_at tree)) → went ≡ stepped.Forked future
-    → ForksTask old owner task future new result → ComesAfter old owner task went new result
-after-forks old new owner task future went (Err e) st has going is r = same-wanting old new task st r
-after-forks old new owner task future went (Ok found) st has going is r = record {
+pub after-forks : (old new : Shared) (owner task future : Name) (went : Stepped) (found : Given) → IfSome (named owner old.attempts) (λ tree. false ≡ is_some (end_at tree)) → went ≡ stepped.Forked future
+    → HasForkedTask old owner task future new found → ComesAfter old owner task went new (Ok found)
+after-forks old new owner task future went found going is r = record {
   row = λ x tree there attempt.
       no-end (end_at tree) (at-attempt (named owner old.attempts) (λ (t : Attempt). false ≡ is_some (end_at t)) tree attempt going) (λ e. AfterStep old owner x task tree went e found new)
       (subst (λ k. AfterStep old owner x task tree k None found new) (sym is) (r.found_is, r.forked));
@@ -164,6 +160,17 @@ after-forks old new owner task future went (Ok found) st has going is r = record
   where
     none : NoneGone old.board new.board
     none q some = set-keeps task _ _ r.forked.board new.board r.forked.steps.set q (put-keeps future _ old.board r.forked.board r.forked.put q some)
+
+-- a child for which there is room, of a step that forked
+pub record HasChild (k : Kept) (owner future : Name) (child : Option Child) : Type 0 where
+  pub is : Child
+  pub there : child ≡ Some is
+  pub called : is.name ≡ future
+  pub room : IsRoomFor k owner is
+
+pub has-child : (k : Kept) (owner future : Name) (went : Stepped) (child : Option Child) → went ≡ stepped.Forked future → IsOfStep child went → HasRoomFor k owner child → HasChild k owner future child
+has-child k owner future went None is of room = absurd (subst (λ w. IsOfStep None w) is of)
+has-child k owner future went (Some child) is of room = record { is = child; there = refl; called = subst (λ w. IsOfStep (Some child) w) is of; room = room }
 
 -- the child is of the future, and of the attempt of that unit
 pub forked-so : (old new : Shared) (owner task future : Name) (child : Child) (found : Given) → child.name ≡ future → child.owner ≡ owner → HasForkedTask old child.owner task child.name new found → HasForkedTask old owner task future new found

@@ -1,8 +1,8 @@
 -- What is left for want of memory, and steps of tasks.
-use Rattle.std.proofs.Common.{◌≡◌, ◌∙◌, Bool, true, cond, inl, inr, refl, sym, ap, subst}
+use Rattle.std.proofs.Common.{◌≡◌, ◌∙◌, true, inl, inr, refl, sym, ap, subst}
 use Rattle.std.specs.Prelude.{◌⊎◌}
 use Rattle.std.specs.Option.{IsSome, option_and_then, option_map}
-use Rattle.std.specs.Prelude.{Err, IfSome, None, Ok, Option, Result, Some, is_err, is_some}
+use Rattle.std.specs.Prelude.{Err, IfSome, None, Ok, Option, Result, Some, is_some}
 use Rattle.std.specs.declared.alloc.AllocError.{AllocError}
 use Rattle.eval_step.specs.Evaluation.{Evaluation, IsOf, IsSame}
 use Rattle.attempt_steps.proofs.Decided.{at-attempt}
@@ -11,16 +11,22 @@ use Rattle.world_steps.proofs.Forking.{same-claimed, same-stands}
 use Rattle.world_steps.proofs.Settling.{same-claims}
 use Rattle.attempt_steps.proofs.Stepped.{task-stays}
 use Rattle.world_steps.specs.Kept.{IsSameBut}
-use Rattle.attempt_steps.specs.Tasks.{ComesAfter, HasCome, HasStepped, IsTaskIn, IsTaskOf, IsWanting, TaskCame}
+use Rattle.attempt_steps.specs.Tasks as left_as
+use Rattle.attempt_steps.specs.Tasks.{ComesAfter, HasCome, HasStepped, IsLeft, IsSettling, IsTaskIn, IsTaskOf, IsWanting, TaskCame}
 use Rattle.serial_model.specs.declared.halt.Halt.{Halt}
 use Rattle.serial_model.specs.declared.halt.Halt.TheVariants as halt
 use Rattle.serial_model.specs.declared.request.Request.TheVariants as request
 use Rattle.serial_model.specs.State.{UnitState}
-use Rattle.shared_world.proofs.Steps.{stepped}
+use Rattle.shared_world.proofs.ActorPieces.{actor_of_piece}
+use Rattle.shared_world.proofs.Live.{no-unit}
+use Rattle.shared_world.proofs.MarkedTasks.{left-ended, left-settling, left-waiting}
+use Rattle.shared_world.proofs.Marks.{pieces-marks}
+use Rattle.shared_world.proofs.Steps.{marked-task, stepped}
 use Rattle.shared_world.specs.declared.given.Given.{Given}
 use Rattle.shared_world.specs.Gave.{GaveTask}
+use Rattle.shared_world.specs.Marks.{HasMarks}
 use Rattle.shared_world.specs.Returned.{halt_of}
-use Rattle.shared_world.specs.rows.Tasks.{AfterStep, TaskGives, outer_of}
+use Rattle.shared_world.specs.rows.Tasks.{StepsOn, TaskGives, outer_of}
 use Rattle.shared_world.specs.Shared.{Shared, is_going, unit_state}
 use Rattle.shared_world.specs.Stands.{IsUnderWay, Stands, start_of}
 use Rattle.task_fork_join.specs.Attempt.{AreTasks, Attempt, IsInside, IsKept, end_at, going, machine_of}
@@ -28,19 +34,24 @@ use Rattle.task_fork_join.specs.declared.stepped.Stepped.{Stepped}
 use Rattle.task_fork_join.specs.declared.task.Stage.{Stage}
 use Rattle.task_fork_join.specs.declared.task.Stage.TheVariants as stages
 use Rattle.task_fork_join.specs.declared.task.Task.{Task}
+use Rattle.task_fork_join.specs.declared.task_end.TaskEnd.{TaskEnd}
 use Rattle.task_fork_join.specs.Running.{HasMachine}
 use Rattle.task_fork_join.specs.Step.{IsStep}
 use Rattle.txn_snapshot.specs.SnapshotAnswer.{snapshot_of}
-use Rattle.unit_table.specs.Board.{Board, SameClaims, SamePieces, lent_to, piece_at, unit_at}
+use Rattle.unit_table.specs.Board.{Board, SameClaims, SamePieces, lent_to, piece_at}
+use Rattle.unit_table.specs.declared.mark.Mark.{Mark}
 use Rattle.unit_table.specs.declared.mark.Mark.TheVariants as mark
 use Rattle.unit_table.specs.declared.mark.Work.TheVariants as work
 use Rattle.unit_table.specs.declared.piece.Piece.{Piece}
 use Rattle.unit_table.specs.declared.piece.Piece.TheVariants as piece
-use Rattle.unit_table.specs.declared.unit.Unit.{Unit}
 use Rattle.unit_table.specs.Piece.{unit_in}
 use Rattle.value_core.proofs.NamedLaws.{named-here}
 use Rattle.value_core.specs.declared.ticket.Ticket.{Ticket}
 use Rattle.value_core.specs.Named.{Name, named, with_named}
+
+-- the marks of what is the same but for room
+pub same-marks : (old new : Shared) → IsSameBut old new → HasMarks old → HasMarks new
+same-marks old new is = pieces-marks old new is.pieces is.rest
 
 -- nothing changed but room
 pub same-wanting : (old new : Shared) (name : Name) → Stands old → IsSameBut old new → IsWanting old name new
@@ -49,17 +60,30 @@ same-wanting old new name st is = record {
   here = inl (is.pieces name);
   others = λ other ne. is.pieces other;
   claims = λ ticket free. is.claims.to ticket;
+  marks = same-marks old new is;
   rest = is.rest ∙ ap (λ a. record old { attempts = a; board = new.board }) (sym (ap (λ (s : Shared). s.attempts) is.rest));
 }
 
+-- a task that is ready to settle for want of memory
+pub settling-wanting : (old new : Shared) (task : Name) (m : Mark) → Stands old → piece_at old.board task ≡ Some (piece.Task m) → IsSettling old task new → IsWanting old task new
+settling-wanting old new task m st at is = record {
+  stands = marked-task old st task (mark.Ready work.Settle) new (no-unit old.board task m at, ap actor_of_piece at) is.marked;
+  here = inr is.marked.set.here;
+  others = λ other ne. is.marked.set.others other ne;
+  claims = is.claims;
+  marks = λ marks going. left-settling old (marks (sym (ap (λ (s : Shared). is_going s.end) is.marked.others) ∙ going)) task m at new is.marked;
+  rest = is.marked.others ∙ ap (λ a. record old { attempts = a; board = new.board }) (sym (ap (λ (s : Shared). s.attempts) is.marked.others));
+}
+
 -- what is left after what took a step on what is the same but for room
-pub wanting-again : (old mid new : Shared) (name : Name) → SamePieces old.board mid.board → ((t : Ticket) → lent_to mid.board t ≡ lent_to old.board t) → mid ≡ record old { attempts = mid.attempts; board = mid.board } → IsWanting mid name new
+pub wanting-again : (old mid new : Shared) (name : Name) → SamePieces old.board mid.board → ((t : Ticket) → lent_to mid.board t ≡ lent_to old.board t) → mid ≡ record old { attempts = mid.attempts; board = mid.board } → (HasMarks old → HasMarks mid) → IsWanting mid name new
     → IsWanting old name new
-wanting-again old mid new name pieces to rest is = record {
+wanting-again old mid new name pieces to rest marks is = record {
   stands = is.stands;
   here = on (piece_at new.board name) is.here;
   others = λ other ne. is.others other ne ∙ pieces other;
   claims = λ ticket free. is.claims ticket (λ lent. free (sym (to ticket) ∙ lent)) ∙ to ticket;
+  marks = λ right. is.marks (marks right);
   rest = is.rest ∙ ap (λ (s : Shared). record s { attempts = new.attempts; board = new.board }) rest;
 }
   where
@@ -180,8 +204,8 @@ module _ (old : Shared) (b : Board) (st : Stands old) (on_going : is_going old.e
       on (Some t) is-some = refl
 
   -- what it comes to
-  pub step-came : (new : Shared) (found : Given) → HasCome mid owner task went new found → GaveTask old task found new
-  step-came new found came = record {
+  pub step-came : end_at is.tree ≡ None → (new : Shared) (found : Given) → HasCome mid owner task went new found → GaveTask old task found new
+  step-came unended new found came = record {
     owner = owner;
     unit = is.task_in.unit;
     tree = is.tree;
@@ -190,7 +214,7 @@ module _ (old : Shared) (b : Board) (st : Stands old) (on_going : is_going old.e
     of = is.of;
     unit_there = is.task_in.unit_there;
     attempt = is.task_in.attempt;
-    gives = subst (λ m. TaskGives old owner is.task_in.unit task is.tree m found new) (sym is.kept) (record {
+    gives = subst (λ o. TaskGives old owner is.task_in.unit task is.tree o (machine_of is.tree task) found new) (sym unended) (subst (λ m. StepsOn old owner is.task_in.unit task is.tree m found new) (sym is.kept) (record {
       moved = moved;
       same = is.same;
       after = after;
@@ -198,7 +222,7 @@ module _ (old : Shared) (b : Board) (st : Stands old) (on_going : is_going old.e
       of = is.program;
       step = on-old;
       comes = after-again base b same owner is.task_in.unit task after went (end_at after) found new (came.row is.task_in.unit after (ap (option_and_then unit_in) (same owner) ∙ is.task_in.unit_there) (named-here owner after old.attempts));
-    });
+    }));
     claims = gone-again old mid new task same (same-claimed old mid' same-but) came.claims;
   }
     where
@@ -243,12 +267,57 @@ module _ (old mid : Shared) (st : Stands old) (on_going : is_going old.end ≡ t
   pub taken-task : IsTaskIn mid owner task t.after
   taken-task = subst (λ (s : Shared). IsTaskIn s owner task t.after) (sym t.mid_is) (mid-task old t.board st on_going t.same t.claims owner task moved h is t.after went t.step)
 
-  pub taken-came : (new : Shared) (result : Result Given AllocError) → ComesAfter mid owner task went new result → TaskCame old task new result
-  taken-came new (Ok found) came =
-      step-came old t.board st on_going t.same t.claims owner task moved h is t.after went t.step new found (subst (λ (s : Shared). HasCome s owner task went new found) t.mid_is came)
-  taken-came new (Err e) came =
-      wanting-again old mid new task (λ q. ap (λ (s : Shared). piece_at s.board q) t.mid_is ∙ t.same q) (λ k. ap (λ (s : Shared). lent_to s.board k) t.mid_is ∙ t.claims.to k)
-      (t.mid_is ∙ ap (λ (s : Shared). record old { attempts = s.attempts; board = s.board }) (sym t.mid_is)) came
+  pub taken-came : IfSome (named owner old.attempts) (λ tree. end_at tree ≡ None) → (new : Shared) (result : Result Given AllocError) → ComesAfter mid owner task went new result → TaskCame old task new result
+  taken-came unended new (Ok found) came =
+      step-came old t.board st on_going t.same t.claims owner task moved h is t.after went t.step (at-attempt (named owner old.attempts) (λ (a : Attempt). end_at a ≡ None) is.tree is.task_in.attempt unended) new found (subst (λ (s : Shared). HasCome s owner task went new found) t.mid_is came)
+  taken-came unended new (Err e) came = left came
+    where
+      mid-piece : (q : Name) → piece_at mid.board q ≡ piece_at old.board q
+      mid-piece q = ap (λ (s : Shared). piece_at s.board q) t.mid_is ∙ t.same q
+
+      mid-lent : (k : Ticket) → lent_to mid.board k ≡ lent_to old.board k
+      mid-lent k = ap (λ (s : Shared). lent_to s.board k) t.mid_is ∙ t.claims.to k
+
+      on-base : new ≡ record mid { board = new.board } → new ≡ record old { attempts = with_named old.attempts owner t.after; board = new.board }
+      on-base is = is ∙ ap (λ (s : Shared). record s { board = new.board }) t.mid_is
+
+      rest-so : new ≡ record old { attempts = with_named old.attempts owner t.after; board = new.board } → new ≡ record old { attempts = new.attempts; board = new.board }
+      rest-so is = is ∙ ap (λ a. record old { attempts = a; board = new.board }) (sym (ap (λ (s : Shared). s.attempts) is))
+
+      before : end_at is.tree ≡ None
+      before = at-attempt (named owner old.attempts) (λ (a : Attempt). end_at a ≡ None) is.tree is.task_in.attempt unended
+
+      step : IsStep (snapshot_of old.versions is.tree.snapshot) task moved (outer_of old.board (halt_of old.setup.program is.machine)) (halt_of old.setup.program is.machine) is.tree t.after went
+      step = on-old old t.board st on_going t.same t.claims owner task moved h is t.after went t.step
+
+      mid-ended : IfSome (named owner mid.attempts) (λ tree. true ≡ is_some (end_at tree)) → (e : TaskEnd) × (end_at t.after ≡ Some e)
+      mid-ended ended = by (end_at t.after) refl (at-attempt (named owner mid.attempts) (λ (a : Attempt). true ≡ is_some (end_at a)) t.after (ap (λ (s : Shared). named owner s.attempts) t.mid_is ∙ named-here owner t.after old.attempts) ended)
+        where
+          by : (o : Option TaskEnd) → end_at t.after ≡ o → true ≡ is_some o → (e : TaskEnd) × (end_at t.after ≡ Some e)
+          by None so e = cc
+          by (Some end) so e = (end, so)
+
+      left : IsLeft mid owner task went new → IsWanting old task new
+      left (left_as.waits held same) = record {
+        stands = same-stands mid new taken-stands same;
+        here = inl (same.pieces task ∙ mid-piece task);
+        others = λ other ne. same.pieces other ∙ mid-piece other;
+        claims = λ ticket free. same.claims.to ticket ∙ mid-lent ticket;
+        marks = λ marks going. left-waiting old st (marks on_going) on_going owner task is.task_in.unit is.tree is.task_in.mark is.task_in.there is.of is.task_in.unit_there is.task_in.attempt before is.machine moved is.kept t.after went step new held
+            (same.pieces task ∙ mid-piece task ∙ is.task_in.there) (λ q other. same.pieces q ∙ mid-piece q) (on-base same.rest);
+        rest = rest-so (on-base same.rest);
+      }
+      left (left_as.settles ended settling) = record {
+        stands = marked-task mid taken-stands task (mark.Ready work.Settle) new (no-unit mid.board task is.task_in.mark (mid-piece task ∙ is.task_in.there), ap actor_of_piece (mid-piece task ∙ is.task_in.there)) settling.marked;
+        here = inr settling.marked.set.here;
+        others = λ other ne. settling.marked.set.others other ne ∙ mid-piece other;
+        claims = λ ticket free. settling.claims ticket (λ lent. free (sym (mid-lent ticket) ∙ lent)) ∙ mid-lent ticket;
+        marks = λ marks going.
+            let end = mid-ended ended in
+            left-ended old st (marks on_going) on_going owner task is.task_in.unit is.tree is.task_in.mark is.task_in.there is.of is.task_in.unit_there is.task_in.attempt before is.machine moved is.kept t.after went step new end.0 end.1
+            (record { set = record { here = settling.marked.set.here; others = λ other ne. settling.marked.set.others other ne ∙ mid-piece other }; others = on-base settling.marked.others });
+        rest = rest-so (on-base settling.marked.others);
+      }
 
 -- what is as it was is the same but for room
 pub same-itself : (s : Shared) → IsSameBut s s
@@ -265,13 +334,14 @@ gave-again old b same claims task found new g = record {
   of = g.of;
   unit_there = ap (option_and_then unit_in) (sym (same g.owner)) ∙ g.unit_there;
   attempt = g.attempt;
-  gives = on (machine_of g.tree task) g.gives;
+  gives = on (end_at g.tree) (machine_of g.tree task) g.gives;
   claims = gone-again old (record old { board = b }) new task same (same-claimed old (record old { board = b }) (record { pieces = same; claims = claims; rest = refl })) g.claims;
 }
   where
-    on : (machine : Option Evaluation) → TaskGives (record old { board = b }) g.owner g.unit task g.tree machine found new → TaskGives old g.owner g.unit task g.tree machine found new
-    on None r = record { ended = r.ended; is_ended = r.is_ended; comes = root-again old b same g.owner g.unit g.tree r.ended found new r.comes }
-    on (Some machine) r = record {
+    on : (ended : Option TaskEnd) (machine : Option Evaluation) → TaskGives (record old { board = b }) g.owner g.unit task g.tree ended machine found new → TaskGives old g.owner g.unit task g.tree ended machine found new
+    on (Some ended) machine r = root-again old b same g.owner g.unit g.tree ended found new r
+    on None None r = absurd r
+    on None (Some machine) r = record {
       moved = r.moved;
       same = r.same;
       after = r.after;
@@ -284,4 +354,4 @@ gave-again old b same claims task found new g = record {
 pub came-again : (old one new : Shared) (task : Name) (result : Result Given AllocError) → IsSameBut old one → TaskCame one task new result → TaskCame old task new result
 came-again old one new task (Ok found) same came = gave-again old one.board same.pieces same.claims task found new (subst (λ (s : Shared). GaveTask s task found new) same.rest came)
 came-again old one new task (Err e) same came =
-    wanting-again old one new task same.pieces same.claims.to (same.rest ∙ ap (λ a. record old { attempts = a; board = one.board }) (sym (ap (λ (s : Shared). s.attempts) same.rest))) came
+    wanting-again old one new task same.pieces same.claims.to (same.rest ∙ ap (λ a. record old { attempts = a; board = one.board }) (sym (ap (λ (s : Shared). s.attempts) same.rest))) (same-marks old one same) came

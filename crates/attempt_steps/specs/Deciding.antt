@@ -1,18 +1,21 @@
 -- Attempts whose root is at its end.
-use Rattle.std.specs.Prelude.{◌≡◌, ◌≤◌, List, [], Err, None, Ok, Option, Result, Some, All, length}
+use Rattle.std.specs.Prelude.{◌≡◌, ◌≤◌, List, [], Err, IfSome, None, Ok, Option, Result, Some, All, length, suc}
 use Rattle.std.specs.declared.alloc.AllocError.{AllocError}
 use Rattle.std.specs.List.{slice_get}
 use Rattle.std.specs.Vec.{vec_capacity}
 use Rattle.eval_step.specs.Evaluation.{Evaluation, IsAsking}
 use Rattle.attempt_steps.specs.declared.commits.Gathered.{Gathered}
+use Rattle.attempt_steps.specs.declared.commits.Prepared.{Prepared}
 use Rattle.attempt_steps.specs.declared.deciding.Changed.{Changed}
 use Rattle.world_steps.specs.declared.kept.Kept.{Kept}
 use Rattle.world_steps.specs.declared.kept.Ready.{Ready}
+use Rattle.attempt_steps.specs.Deeds.{AreDeeds, AreVacant, CanHold}
 use Rattle.attempt_steps.specs.Gone.{GoneEnd, IsFree}
 use Rattle.world_steps.specs.Kept.{IsSameBut, IsUnitOf}
 use Rattle.world_steps.specs.Ready.{IsReady}
 use Rattle.attempt_steps.specs.Undoing.{HasAttempt}
 use Rattle.ref_store.specs.declared.version.Version.{Version}
+use Rattle.ref_store.specs.Store.{HasRoomFor}
 use Rattle.shared_world.specs.declared.given.Given.{Given}
 use Rattle.shared_world.specs.rows.Attempts.{Commits, HasDone}
 use Rattle.shared_world.specs.rows.Pieces.{ClaimsEnd, piece_or_task}
@@ -73,16 +76,17 @@ abbrev pub CommitsOr : Shared → Name → Value → Shared → Result Given All
 CommitsOr old owner v new (Ok found) = HasCommitted old owner v new found
 CommitsOr old owner v new (Err e) = IsSameBut old new
 
--- the writes of the root of the attempt, and what was printed in it
-pub record HasGathered (tree : Attempt) (g : Gathered) : Type 0 where
+-- the writes of the root of the unit's attempt, what was printed in it, and what is to be done to actors
+pub record HasGathered (u : Name) (tree : Attempt) (g : Gathered) : Type 0 where
   pub log : SnapshotTask
   pub done : HasDone tree log
   pub writes : g.writes.items ≡ log.log.writes
   pub text : g.text.items ≡ effects_bytes log.log.effects
+  pub deeds : AreDeeds u log.log.effects g.deeds
 
--- what was gathered of that attempt, with room for the snapshots of these
-pub record IsGatheredOf (tree : Attempt) (attempts : Named Attempt) (g : Gathered) : Type 0 where
-  pub has : HasGathered tree g
+-- what was gathered of that unit's attempt, with room for the snapshots of these
+pub record IsGatheredOf (u : Name) (tree : Attempt) (attempts : Named Attempt) (g : Gathered) : Type 0 where
+  pub has : HasGathered u tree g
   pub empty : g.live.items ≡ []
   pub room : length attempts ≤ vec_capacity g.live
 
@@ -96,3 +100,13 @@ pub record IsReadyUnit (old : Shared) (k : Kept) (name : Name) (v : Value) (r : 
   pub machine : Evaluation
   pub standing : IsAtRequest old name machine
   pub ready : IsReady k name machine v r
+
+-- The commit is ready, with that value: there is room for all that it changes but for what it prints.
+pub record IsPreparedFor (old : Shared) (k : Kept) (name : Name) (v : Value) (p : Prepared) : Type 0 where
+  pub number : p.number ≡ suc (length old.history)
+  pub made : IfSome (unit_at old.board name) (λ x. p.made ≡ suc x.made)
+  pub gathered : IfSome (named name old.attempts) (λ tree. IsGatheredOf name tree old.attempts p.gathered)
+  pub store : HasRoomFor p.gathered.writes.items k.store.room
+  pub ready : IsReadyUnit old k name v p.ready
+  pub letters : CanHold p.gathered.deeds.counts.entries k.mails
+  pub actors : AreVacant p.gathered.deeds.actors.entries k.units

@@ -1,4 +1,5 @@
 pub mod Deciding
+pub mod Deeds
 pub mod Gone
 pub mod Live
 pub mod Tasks

@@ -1,5 +1,5 @@
 -- Tasks of attempts that take a step.
-use Rattle.std.specs.Prelude.{◌≡◌, ◌⊎◌, ℕ, Err, None, Ok, Option, Result, Some, is_some, true, ⊤}
+use Rattle.std.specs.Prelude.{◌≡◌, ◌⊎◌, ℕ, Err, IfSome, None, Ok, Option, Result, Some, is_some, true, ⊤}
 use Rattle.std.specs.declared.alloc.AllocError.{AllocError}
 use Rattle.eval_step.specs.Evaluation.{Evaluation, IsAsk, IsAsking, IsOf, IsSame}
 use Rattle.world_steps.specs.declared.kept.Kept.{Kept}
@@ -11,16 +11,21 @@ use Rattle.ref_store.specs.declared.version.Version.{Version}
 use Rattle.ref_store.specs.Store.{versions_of}
 use Rattle.ref_store.specs.Version.{newest}
 use Rattle.serial_model.specs.declared.halt.Halt.{Halt}
+use Rattle.serial_model.specs.declared.halt.Halt.TheVariants as halt
+use Rattle.serial_model.specs.declared.request.Request.TheVariants as request
 use Rattle.shared_world.specs.declared.given.Given.{Given}
 use Rattle.shared_world.specs.declared.given.Given.TheVariants as given
 use Rattle.shared_world.specs.Gave.{GaveTask, gone_with}
 use Rattle.shared_world.specs.Returned.{halt_of}
 use Rattle.shared_world.specs.rows.Pieces.{ClaimsEnd}
+use Rattle.shared_world.specs.Marks.{HasMarks}
 use Rattle.shared_world.specs.rows.Tasks.{AfterStep, Forked, IsMarkedTask, Missing}
+use Rattle.task_fork_join.specs.Stepping.{is_held_back}
 use Rattle.shared_world.specs.Shared.{Shared}
 use Rattle.shared_world.specs.Stands.{Stands}
-use Rattle.task_fork_join.specs.Attempt.{Attempt, end_at, machine_of}
+use Rattle.task_fork_join.specs.Attempt.{Attempt, end_at, machine_of, next_made_at}
 use Rattle.task_fork_join.specs.declared.stepped.Stepped.{Stepped}
+use Rattle.task_fork_join.specs.declared.stepped.Stepped.TheVariants as stepped
 use Rattle.task_fork_join.specs.Step.{IsStep}
 use Rattle.unit_table.specs.Board.{Board, HasPlace, IsUnlent, lent_to, piece_at, unit_at}
 use Rattle.unit_table.specs.declared.mark.Mark.{Mark}
@@ -71,6 +76,26 @@ abbrev pub HasRoomFor : Kept → Name → Option Child → Type 0
 HasRoomFor k owner None = ⊤
 HasRoomFor k owner (Some child) = IsRoomFor k owner child
 
+-- the child is what the task of the attempt makes next
+abbrev pub IsNext : Attempt → Name → Option Child → Type 0
+IsNext tree task None = ⊥
+IsNext tree task (Some child) = next_made_at tree task ≡ Some child.name
+
+-- where the task asks to fork, it is
+abbrev pub IsNextIfForked : Halt → Attempt → Name → Option Child → Type 0
+IsNextIfForked (halt.Ask (request.Fork body values) at) tree task child = IsNext tree task child
+IsNextIfForked h tree task child = ⊤
+
+-- a child of that name is there
+abbrev pub IsCalled : Option Child → Name → Type 0
+IsCalled None name = ⊥
+IsCalled (Some child) name = child.name ≡ name
+
+-- a step that forked has forked that child
+abbrev pub IsOfStep : Option Child → Stepped → Type 0
+IsOfStep child (stepped.Forked name) = IsCalled child name
+IsOfStep child went = ⊤
+
 -- the attempt of that unit has taken a step, on these refs
 pub record HasStepped (refs : Name → Option Value) (owner task : Name) (moved : Evaluation) (outer : Option Value) (h : Halt) (tree : Attempt) (old new : Named Attempt) (went : Stepped) : Type 0 where
   pub after : Attempt
@@ -78,13 +103,19 @@ pub record HasStepped (refs : Name → Option Value) (owner task : Name) (moved 
   pub step : IsStep refs task moved outer h tree after went
 
 -- For want of memory the history, the refs, the bytes and the end stay, and so does every other piece; the piece is as it was, or
--- it is a task that is ready to settle; and no claim ends but one on it.
+-- it is a task that is ready to settle; no claim ends but one on it; and the marks are right where they were.
 pub record IsWanting (old : Shared) (name : Name) (new : Shared) : Type 0 where
   pub stands : Stands new
   pub here : (piece_at new.board name ≡ piece_at old.board name) ⊎ (piece_at new.board name ≡ Some (piece.Task (mark.Ready work.Settle)))
   pub others : (other : Name) → (other ≡ name → ⊥) → piece_at new.board other ≡ piece_at old.board other
   pub claims : (ticket : Ticket) → (lent_to old.board ticket ≡ Some name → ⊥) → lent_to new.board ticket ≡ lent_to old.board ticket
+  pub marks : HasMarks old → HasMarks new
   pub rest : new ≡ record old { attempts = new.attempts; board = new.board }
+
+-- the task is ready to settle, and no claim ends but one on it
+pub record IsSettling (old : Shared) (task : Name) (new : Shared) : Type 0 where
+  pub marked : IsMarkedTask old task (mark.Ready work.Settle) new
+  pub claims : (ticket : Ticket) → (lent_to old.board ticket ≡ Some task → ⊥) → lent_to new.board ticket ≡ lent_to old.board ticket
 
 -- a task stands under the name
 pub record IsTaskAt (b : Board) (task : Name) : Type 0 where
@@ -102,15 +133,11 @@ pub record TaskMarked (old : Shared) (task : Name) (m : Mark) (new : Shared) : T
   pub marked : IsMarkedTask old task m new
   pub unlent : IsUnlent task old.board new.board
 
--- the child is there, and the task goes on; or for want of memory nothing changes
+-- the child is there, and the task goes on
 pub record HasForkedTask (old : Shared) (owner task child : Name) (new : Shared) (found : Given) : Type 0 where
   pub found_is : found ≡ given.Local
   pub forked : Forked old owner task child new
   pub unlent : IsUnlent task old.board new.board
-
-abbrev pub ForksTask : Shared → Name → Name → Name → Shared → Result Given AllocError → Type 0
-ForksTask old owner task child new (Ok found) = HasForkedTask old owner task child new found
-ForksTask old owner task child new (Err e) = IsSameBut old new
 
 -- the task waits for the finish of that one; or for want of memory nothing changes
 pub record IsWaitingTask (old : Shared) (task future : Name) (new : Shared) (found : Given) : Type 0 where
@@ -138,16 +165,21 @@ MissesOr old owner ref new (Err e) = IsSameBut old new
 -- what comes of an attempt whose root is at its end; for want of memory the task is ready to settle
 abbrev pub DecidedOrWaits : Shared → Name → Name → Shared → Result Given AllocError → Type 0
 DecidedOrWaits old owner task new (Ok found) = HasDecided old owner new found
-DecidedOrWaits old owner task new (Err e) = IsWanting old task new
+DecidedOrWaits old owner task new (Err e) = IsSettling old task new
 
 -- what comes of a task that has taken a step
 pub record HasCome (mid : Shared) (owner task : Name) (went : Stepped) (new : Shared) (found : Given) : Type 0 where
   pub row : (x : Unit) (tree : Attempt) → unit_at mid.board owner ≡ Some x → named owner mid.attempts ≡ Some tree → AfterStep mid owner x task tree went (end_at tree) found new
   pub claims : ClaimsEnd (gone_with mid.board new.board task) mid new
 
+-- For want of memory a step that waits changes nothing else; where the root is at its end, the task is ready to settle.
+pub data IsLeft (mid : Shared) (owner task : Name) (went : Stepped) (new : Shared) : Type 0 where
+  waits : is_held_back went ≡ true → IsSameBut mid new → IsLeft mid owner task went new
+  settles : IfSome (named owner mid.attempts) (λ tree. true ≡ is_some (end_at tree)) → IsSettling mid task new → IsLeft mid owner task went new
+
 abbrev pub ComesAfter : Shared → Name → Name → Stepped → Shared → Result Given AllocError → Type 0
 ComesAfter mid owner task went new (Ok found) = HasCome mid owner task went new found
-ComesAfter mid owner task went new (Err e) = IsWanting mid task new
+ComesAfter mid owner task went new (Err e) = IsLeft mid owner task went new
 
 -- what a task comes to
 abbrev pub TaskCame : Shared → Name → Shared → Result Given AllocError → Type 0

@@ -3,16 +3,16 @@ ghost use Rattle.std.specs.Prelude.{◌≡◌, ◌≤◌, All, IfOk, IfSome, Non
 ghost use Rattle.std.specs.Option.{IsSome};
 ghost use Rattle.std.specs.Arc.{arc_value};
 ghost use Rattle.eval_step.specs.Evaluation.{IsAsking, IsOf, IsSame};
-ghost use Rattle.attempt_steps.specs.Deciding.{CommitsOr, IsGatheredOf, IsReadyUnit, IsAtRequest, IsTrying};
-ghost use Rattle.world_steps.specs.Kept.{shared_of};
+ghost use Rattle.attempt_steps.specs.Deciding.{CommitsOr, IsGatheredOf, IsPreparedFor, IsReadyUnit, IsAtRequest, IsTrying};
+ghost use Rattle.world_steps.specs.Kept.{shared_of, IsSameBut};
 ghost use Rattle.ref_store.specs.Store.{HasRoomFor};
-ghost use Rattle.serial_model.specs.declared.effect.Effect.{Effect as Done};
-ghost use Rattle.shared_world.specs.rows.Attempts.{IsBytes};
 ghost use Rattle.shared_world.specs.Stands.{Stands};
 ghost use Rattle.unit_table.specs.Board.{unit_at};
 ghost use Rattle.value_core.specs.Named.{named, Rises};
 ghost use Rattle.world_model.specs.rows.Commits.{effects_bytes, what_bytes};
 
+use crate::deeds::{Deeds, deeds_of};
+use crate::doing::{do_deeds, room_for_deeds};
 use crate::snapshots::room_for_snapshots;
 use crate::undoing::{drop_attempt, prune};
 use core_syntax::Program;
@@ -28,13 +28,24 @@ use value_core::name_map::find;
 use value_core::{Name, Value};
 use world_steps::{Kept, Ready};
 
-/// What a commit takes out of an attempt: what the root wrote, and what was printed in it; and room for the snapshots of the
-/// attempts that are left.
+/// What a commit takes out of an attempt: what the root wrote, what was printed in it, and what is to be done to actors; and room
+/// for the snapshots of the attempts that are left.
 #[derive(Drop)]
 pub(crate) struct Gathered {
     pub(crate) writes: Writes,
     pub(crate) text: Vec<u8>,
+    pub(crate) deeds: Deeds,
     pub(crate) live: Vec<u64>,
+}
+
+/// A commit that is ready: the number of its entry, how many things the unit has made then, what it takes out of the attempt,
+/// and the step of the unit. But for what it prints it takes no more memory.
+#[derive(Drop)]
+pub(crate) struct Prepared {
+    pub(crate) number: u64,
+    pub(crate) made: u32,
+    pub(crate) gathered: Gathered,
+    pub(crate) ready: Ready,
 }
 
 /// The attempt of the unit commits, and the unit goes on with that value.
@@ -49,16 +60,54 @@ pub(crate) fn commit(
     requires attempt { IsTrying (shared_of kept.old) owner.now }
     ensures { CommitsOr (shared_of kept.old) owner.now value (shared_of kept.new) result }
 {
+    let prepared = prepare(kept, alloc, owner, value)?;
+    kept.output
+        .extend_from_slice(prepared.gathered.text.as_slice())?;
+    let Prepared {
+        number,
+        made,
+        gathered,
+        ready,
+    } = prepared;
+    let Gathered {
+        writes,
+        deeds,
+        live,
+        ..
+    } = gathered;
+    drop_attempt(&mut kept.attempts, &mut kept.units, owner);
+    kept.store.commit(writes, number);
+    prune(&kept.attempts, &mut kept.store, live);
+    let given = kept.settle(owner, ready, made);
+    do_deeds(kept, alloc, owner, deeds);
+    Ok(given)
+}
+
+/// Takes all memory for the commit but that for what it prints. For want of memory nothing has changed but room.
+fn prepare(
+    kept: &mut Kept,
+    alloc: Global,
+    owner: &Name,
+    value: Value,
+) -> Result<Prepared, AllocError>
+    requires stands { Stands (shared_of kept.old) }
+    requires going { kept.old.end ≡ None }
+    requires attempt { IsTrying (shared_of kept.old) owner.now }
+    ensures same { IsSameBut (shared_of kept.old) (shared_of kept.new) }
+    ensures others { kept.new ≡ record kept.old { history = kept.new.history; store = kept.new.store; units = kept.new.units; mails = kept.new.mails } }
+    ensures prepared { IfOk result (IsPreparedFor (shared_of kept.old) kept.new owner.now value) }
+{
     let number = kept.next_number()?;
     let made = made_with_next(kept, owner)?;
     let gathered = gather(kept, alloc, owner)?;
     let ready = ready_unit(kept, alloc, owner, value)?;
-    kept.output.extend_from_slice(gathered.text.as_slice())?;
-    let Gathered { writes, live, .. } = gathered;
-    drop_attempt(&mut kept.attempts, &mut kept.units, owner);
-    kept.store.commit(writes, number);
-    prune(&kept.attempts, &mut kept.store, live);
-    Ok(kept.settle(owner, ready, made))
+    room_for_deeds(kept, alloc, &gathered.deeds)?;
+    Ok(Prepared {
+        number,
+        made,
+        gathered,
+        ready,
+    })
 }
 
 /// How many things the unit has made with the one that it makes next.
@@ -73,7 +122,7 @@ fn made_with_next(kept: &Kept, name: &Name) -> Result<u32, AllocError>
 fn gather(kept: &mut Kept, alloc: Global, owner: &Name) -> Result<Gathered, AllocError>
     ensures same { shared_of kept.new ≡ shared_of kept.old }
     ensures others { kept.new ≡ record kept.old { store = kept.new.store } }
-    ensures gathered { IfOk result (λ g. IfSome (named owner.now kept.old.attempts.entries) (λ tree. IsGatheredOf tree kept.old.attempts.entries g)) }
+    ensures gathered { IfOk result (λ g. IfSome (named owner.now kept.old.attempts.entries) (λ tree. IsGatheredOf owner.now tree kept.old.attempts.entries g)) }
     ensures room { IfOk result (λ g. HasRoomFor g.writes.items kept.new.store.room) }
 {
     let gathered = done_in(kept, alloc, owner)?;
@@ -83,10 +132,10 @@ fn gather(kept: &mut Kept, alloc: Global, owner: &Name) -> Result<Gathered, Allo
 
 /// What the commit takes out of the attempt. Where there is none, of which no claim knows, it is taken for want of memory.
 fn done_in(kept: &Kept, alloc: Global, owner: &Name) -> Result<Gathered, AllocError>
-    ensures { IfOk result (λ g. IfSome (named owner.now kept.now.attempts.entries) (λ tree. IsGatheredOf tree kept.now.attempts.entries g)) }
+    ensures { IfOk result (λ g. IfSome (named owner.now kept.now.attempts.entries) (λ tree. IsGatheredOf owner.now tree kept.now.attempts.entries g)) }
 {
     match find(&kept.attempts, owner) {
-        Some(tree) => gathered_of(alloc, tree, &kept.attempts),
+        Some(tree) => gathered_of(alloc, owner, tree, &kept.attempts),
         None => Err(AllocError),
     }
 }
@@ -136,20 +185,26 @@ fn run_on(alloc: Global, machine: &Machine, program: &Program) -> Result<Machine
     }
 }
 
-/// What the root of the attempt wrote, and what was printed in it, with room for the snapshots of the attempts.
+/// What the root of the attempt of the unit wrote, and what the effects in it are, with room for the snapshots of the attempts.
 fn gathered_of(
     alloc: Global,
+    owner: &Name,
     tree: &Tree,
     attempts: &BTreeMap<Name, Tree>,
 ) -> Result<Gathered, AllocError>
-    ensures { IfOk result (IsGatheredOf tree.now attempts.now.entries) }
+    ensures { IfOk result (IsGatheredOf owner.now tree.now attempts.now.entries) }
 {
     let log = tree.root();
-    check_prints(log.effects())?;
     let text = printed(alloc, log.effects())?;
     let writes = written(alloc, log)?;
+    let deeds = deeds_of(alloc, owner, log.effects())?;
     let live = room_for_snapshots(alloc, attempts)?;
-    Ok(Gathered { writes, text, live })
+    Ok(Gathered {
+        writes,
+        text,
+        deeds,
+        live,
+    })
 }
 
 /// The refs that the task wrote, with their values.
@@ -185,25 +240,5 @@ fn bytes_of(what: &What) -> &[u8]
     match what {
         What::Bytes(text) => text.items(),
         What::Send(_, _) | What::Spawn(_, _, _) | What::Become(_, _) => &[],
-    }
-}
-
-/// Each effect prints. Where one does not, which the programs that are run here do not do, it is taken for want of memory.
-fn check_prints(effects: &[Effect]) -> Result<(), AllocError>
-    ensures { OnOk result (All (λ (e : Done). IsBytes e.what) effects.now) }
-{
-    for effect in effects {
-        check_print(effect)?;
-    }
-    Ok(())
-}
-
-/// The effect prints.
-fn check_print(effect: &Effect) -> Result<(), AllocError>
-    ensures { OnOk result (IsBytes effect.now.what) }
-{
-    match &effect.what {
-        What::Bytes(_) => Ok(()),
-        What::Send(_, _) | What::Spawn(_, _, _) | What::Become(_, _) => Err(AllocError),
     }
 }

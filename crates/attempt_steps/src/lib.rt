@@ -3,6 +3,8 @@
 
 mod commits;
 mod deciding;
+mod deeds;
+mod doing;
 mod snapshots;
 mod tasks;
 mod undoing;

@@ -3,7 +3,7 @@ ghost use Rattle.std.specs.Prelude.{◌≡◌, IfOk, IfSome, None, OnErr, Some, 
 ghost use Rattle.std.specs.Option.{option_copied, IsSome};
 ghost use Rattle.world_steps.specs.Kept.{shared_of, IsSameBut};
 ghost use Rattle.attempt_steps.specs.Deciding.{IsTrying};
-ghost use Rattle.attempt_steps.specs.Tasks.{ComesAfter, DecidedOrWaits, ForksTask, HasForkedTask, HasRoomFor, HasStepped, IfNewest, IsRoomyChild, IsTaskAt, IsTaskIn, IsTaskOf, IsOwned, MissesOr, TaskCame, TaskMarked, TaskWaits};
+ghost use Rattle.attempt_steps.specs.Tasks.{ComesAfter, DecidedOrWaits, HasForkedTask, HasRoomFor, HasStepped, IfNewest, IsNext, IsNextIfForked, IsOfStep, IsRoomyChild, IsTaskAt, IsTaskIn, IsTaskOf, IsOwned, MissesOr, TaskCame, TaskMarked, TaskWaits};
 ghost use Rattle.ref_store.specs.Store.{versions_of};
 ghost use Rattle.ref_store.specs.Version.{newest};
 ghost use Rattle.shared_world.specs.rows.Tasks.{outer_of};
@@ -37,7 +37,8 @@ pub(crate) struct Child {
     pub(crate) owner: Name,
 }
 
-/// The task of the unit's attempt, whose machine was moved to that halt, takes a step.
+/// The task of the unit's attempt, whose machine was moved to that halt, takes a step; or where the root of the attempt is at its
+/// end already, that is decided.
 pub fn step_task(
     kept: &mut Kept,
     alloc: Global,
@@ -51,6 +52,10 @@ pub fn step_task(
     requires task { IsTaskOf (shared_of kept.old) owner.now task.now moved halt }
     ensures { TaskCame (shared_of kept.old) task.now (shared_of kept.new) result }
 {
+    if has_ended(kept, owner) {
+        drop_moved(moved, halt);
+        return decide_or_wait(kept, alloc, owner, task);
+    }
     match room_for_child(kept, alloc, owner, task, &halt) {
         Ok(child) => step_with(kept, alloc, owner, task, moved, halt, child),
         Err(error) => {
@@ -94,7 +99,9 @@ fn step_with(
     requires stands { Stands (shared_of kept.old) }
     requires going { kept.old.end ≡ None }
     requires task { IsTaskOf (shared_of kept.old) owner.now task.now moved halt }
+    requires open { IfSome (named owner.now kept.old.attempts.entries) (λ tree. end_at tree ≡ None) }
     requires room { HasRoomFor kept.old owner.now child }
+    requires next { IfSome (named owner.now kept.old.attempts.entries) (λ tree. IsNextIfForked halt tree task.now child) }
     ensures { TaskCame (shared_of kept.old) task.now (shared_of kept.new) result }
 {
     match take_step(kept, alloc, owner, task, moved, halt) {
@@ -117,6 +124,7 @@ fn room_for_child(
     ensures same { IsSameBut (shared_of kept.old) (shared_of kept.new) }
     ensures others { kept.new ≡ record kept.old { units = kept.new.units; owners = kept.new.owners } }
     ensures room { IfOk result (HasRoomFor kept.new owner.now) }
+    ensures next { IfOk result (λ child. IfSome (named owner.now kept.old.attempts.entries) (λ tree. IsNextIfForked halt.now tree task.now child)) }
 {
     match halt {
         Halt::Ask(Request::Fork(_, _), _) => child_room(kept, alloc, owner, task),
@@ -134,6 +142,7 @@ fn child_room(
     ensures same { IsSameBut (shared_of kept.old) (shared_of kept.new) }
     ensures others { kept.new ≡ record kept.old { units = kept.new.units; owners = kept.new.owners } }
     ensures room { IfOk result (HasRoomFor kept.new owner.now) }
+    ensures next { IfOk result (λ child. IfSome (named owner.now kept.old.attempts.entries) (λ tree. IsNext tree task.now child)) }
 {
     let name = next_of_task(kept, alloc, owner, task)?;
     kept.reserve_new(alloc, &name)?;
@@ -194,6 +203,7 @@ fn after_step(
     requires at { IfSome (named owner.now kept.old.attempts.entries) (IsTaskIn (shared_of kept.old) owner.now task.now) }
     requires there { IsSome (named owner.now kept.old.attempts.entries) }
     requires room { HasRoomFor kept.old owner.now child }
+    requires child { IsOfStep child went }
     ensures { ComesAfter (shared_of kept.old) owner.now task.now went (shared_of kept.new) result }
 {
     if has_ended(kept, owner) {
@@ -204,7 +214,7 @@ fn after_step(
             mark_task(kept, task, Mark::Ready(Work::Eval));
             Ok(Given::Local)
         }
-        Stepped::Forked(future) => add_forked(kept, alloc, owner, task, future, child),
+        Stepped::Forked(_) => Ok(add_forked(kept, alloc, task, child)),
         Stepped::WaitJoin(future) => wait_for_task(kept, alloc, task, future),
         Stepped::NotInSnapshot(name) => miss(kept, alloc, owner, name),
         Stepped::Finished => {
@@ -255,23 +265,16 @@ fn mark_task(kept: &mut Kept, task: &Name, mark: Mark)
     kept.units.mark(task, mark);
 }
 
-/// The child that the task forked can go on, and the task can. Where there is no room for a child of that future, which no
-/// run forks, it is taken for want of memory.
-fn add_forked(
-    kept: &mut Kept,
-    alloc: Global,
-    owner: &Name,
-    task: &Name,
-    future: Name,
-    child: Option<Child>,
-) -> Result<Given, AllocError>
+/// The child that the task forked can go on, and the task can. It takes no memory.
+fn add_forked(kept: &mut Kept, alloc: Global, task: &Name, child: Option<Child>) -> Given
     requires there { IsTaskAt kept.old.units task.now }
-    requires room { HasRoomFor kept.old owner.now child }
-    ensures { ForksTask (shared_of kept.old) owner.now task.now future (shared_of kept.new) result }
+    requires some { IsSome child }
+    requires room { IfSome child (IsRoomyChild kept.old) }
+    ensures { IfSome child (λ child. HasForkedTask (shared_of kept.old) child.owner task.now child.name (shared_of kept.new) result) }
 {
     match child {
-        Some(child) if child.name == future => Ok(add_child_task(kept, alloc, task, child)),
-        _ => Err(AllocError),
+        Some(child) => add_child_task(kept, alloc, task, child),
+        None => unreachable!(),
     }
 }
 

@@ -5,6 +5,8 @@ ghost use Rattle.world_steps.specs.Kept.{shared_of, IsSameBut};
 ghost use Rattle.attempt_steps.specs.Undoing.{AbortsOr, HasAttempt, HasUndone, IsTaskGone, IsUndone, TasksGone};
 ghost use Rattle.shared_world.specs.rows.Attempts.{ArePrunedFor};
 ghost use Rattle.shared_world.specs.Stands.{Stands};
+ghost use Rattle.unit_table.specs.Board.{HasPlace};
+ghost use Rattle.value_core.specs.Named.{Name as Called};
 
 use crate::snapshots::{fill_snapshots, room_for_snapshots, take_attempt};
 use ref_store::Store;
@@ -57,6 +59,7 @@ pub fn undo(kept: &mut Kept, alloc: Global, owner: &Name) -> Result<(), AllocErr
 pub(crate) fn drop_attempt(attempts: &mut BTreeMap<Name, Tree>, units: &mut Units, owner: &Name)
     ensures gone { IsUndone owner.now attempts.old.entries units.old attempts.new.entries units.new }
     ensures fewer { length attempts.new.entries ≤ length attempts.old.entries }
+    ensures places { (other : Called) → HasPlace units.old other → HasPlace units.new other }
 {
     if let Some(tree) = take_attempt(attempts, owner) {
         drop_tasks(units, tree.into_names());
@@ -76,7 +79,8 @@ pub(crate) fn prune(attempts: &BTreeMap<Name, Tree>, store: &mut Store, mut live
 /// The tasks of these names are gone, where they are tasks. It takes no memory.
 #[tactic(auto, using(crate::proofs::Gone::one_gone, crate::proofs::Gone::all_gone))]
 fn drop_tasks(units: &mut Units, mut names: TaskNames)
-    ensures { TasksGone names units.old units.new }
+    ensures gone { TasksGone names units.old units.new }
+    ensures places { (other : Called) → HasPlace units.old other → HasPlace units.new other }
 {
     while let Some(name) = names.next() {
         drop_task(units, &name);
@@ -85,7 +89,8 @@ fn drop_tasks(units: &mut Units, mut names: TaskNames)
 
 /// The task of that name is gone, where it is one.
 fn drop_task(units: &mut Units, name: &Name)
-    ensures { IsTaskGone name.now units.old units.new }
+    ensures gone { IsTaskGone name.now units.old units.new }
+    ensures places { (other : Called) → HasPlace units.old other → HasPlace units.new other }
 {
     if let Some(Piece::Task(_)) = units.piece(name) {
         units.mark(name, Mark::Dropped);

@@ -1,6 +1,6 @@
 -- From the files of a replay to what is owed to it.
-use Rattle.std.proofs.Common.{◌≡◌, ◌≢◌, ◌<◌, ℕ, zero, suc, List, [], ◌∷◌, sym, ◌∙◌, ap, subst, inl, inr, arith}
-use Rattle.std.specs.Prelude.{◌⊎◌, Option, None, Some, IfSome, Contains, slice_index_or}
+use Rattle.std.proofs.Common.{◌≡◌, ◌≢◌, ℕ, List, [], sym, ◌∙◌, ap, subst, inl, inr, arith}
+use Rattle.std.specs.Prelude.{◌⊎◌, Option, Some, IfSome}
 use Rattle.core_syntax.specs.Table.{Table}
 use Rattle.serial_model.specs.Replay.{replay, IsOver, status}
 use Rattle.serial_model.specs.Trace.{IsTextOfTrace, trace_refusal}
@@ -10,43 +10,29 @@ use Rattle.serial_model.specs.declared.trace.LineKind.{LineKind}
 use Rattle.trace_text.specs.Same.{IsSameTrace}
 use Rattle.trace_text.proofs.Unique.{one_trace_of, not_refused}
 use Rattle.world_io.specs.Held.{told}
-use Rattle.chocola.specs.declared.outcome.Outcome.{Outcome}
-use Rattle.chocola.specs.Program.{IsProgramOf}
-use Rattle.chocola.specs.Load.{IsLoaded, IsTraced, IsTraceDue}
-use Rattle.chocola.specs.Outcome.{IsEnded, IsStatusOfEnd}
+use Rattle.command_phases.specs.declared.outcome.Outcome.{Outcome}
+use Rattle.command_phases.specs.Program.{IsProgramOf}
+use Rattle.command_phases.specs.Load.{IsLoaded}
+use Rattle.command_phases.specs.LoadPair.{IsHeldAs}
+use Rattle.command_phases.specs.Outcome.{IsEnded, IsStatusOfEnd}
 use Rattle.chocola.specs.ReplayAnswers.{setup_of, IsReplayed, IsReplay, Replays, ReplayOf, ReplayAnswers}
 use Rattle.chocola.specs.ReplayWritten.{ReplayWritten}
-use Rattle.chocola.specs.Seen.{Seen, IsCalm, IsGiven, IsUntouched, NoWriteFailed}
-use Rattle.chocola.specs.SourceAnswers.{AreThere}
-use Rattle.chocola.proofs.Answering.{three_not_ended, four_not_ended, must_tell, no_failure}
-use Rattle.chocola.proofs.Loading.{held_bytes, missing_held, missing_loaded, found_program, found_refused, found_out_of_scope}
+use Rattle.command_phases.specs.Seen.{Seen, IsCalm, IsGiven, IsUntouched, NoWriteFailed}
+use Rattle.command_phases.proofs.Statuses.{three_not_ended, four_not_ended, must_tell, no_failure}
+use Rattle.command_phases.proofs.Loading.{held_bytes, found_program}
+use Rattle.command_phases.proofs.PairErrors.{reads_pair}
 use Rattle.chocola.proofs.Stuck.{differs_never}
 
--- one of the two names
-pub one_of_two : (file trace name : List ℕ) → Contains (file ∷ trace ∷ []) name → (name ≡ file) ⊎ (name ≡ trace)
-one_of_two file trace name h = on h.0 h.1 h.2
-  where
-    on : (k : ℕ) → k < 2 → slice_index_or (file ∷ trace ∷ []) k name ≡ name → (name ≡ file) ⊎ (name ≡ trace)
-    on zero lt e = inl (sym e)
-    on (suc zero) lt e = inr (sym e)
-    on (suc (suc k)) lt e = absurd (omega (arith, lt))
-
-pub second : (file trace : List ℕ) (before : Seen) → AreThere (file ∷ trace ∷ []) before → told before.files.held trace ≢ Some None
-second file trace before there = there 1 [] (omega arith)
-
 -- the trace that is held is the one that was read
-found_trace : (found : Option (Option (List ℕ))) (text : List ℕ) (t stated : Trace) → found ≡ Some (Some text) → IsTraced found t → IsTextOfTrace stated text → IsSameTrace stated t
+found_trace : (found : Option (Option (List ℕ))) (text : List ℕ) (t stated : Trace) → found ≡ Some (Some text) → IsHeldAs (IsTextOfTrace t) found → IsTextOfTrace stated text → IsSameTrace stated t
 found_trace found text t stated is h s =
     let same = held_bytes found text h.bytes is h.read in
     one_trace_of stated t s.is_trace h.text.is_trace (s.spelled ∙ same ∙ sym h.text.spelled)
 
-found_trace_refused : (found : Option (Option (List ℕ))) (text : List ℕ) (t : Trace) (kind : LineKind) (line : ℕ) → found ≡ Some (Some text) → IsTraced found t → trace_refusal text kind line → ⊥
+found_trace_refused : (found : Option (Option (List ℕ))) (text : List ℕ) (t : Trace) (kind : LineKind) (line : ℕ) → found ≡ Some (Some text) → IsHeldAs (IsTextOfTrace t) found → trace_refusal text kind line → ⊥
 found_trace_refused found text t kind line is h r =
     let same = held_bytes found text h.bytes is h.read in
     not_refused h.bytes t kind line h.text (subst (λ b. trace_refusal b kind line) same r)
-
-pub due_trace : (found : Option (Option (List ℕ))) (text : List ℕ) (kind : LineKind) (line : ℕ) → found ≡ Some (Some text) → IsTraceDue found kind line → trace_refusal text kind line
-due_trace found text kind line is h = subst (λ x. IsTraceDue x kind line) is h
 
 -- what replays depends on what the text of a trace tells
 same_replays : (program other : Table) (t u : Trace) → program ≡ other → IsSameTrace t u → Replays other t → Replays program u
@@ -82,7 +68,7 @@ status_of_end : (outcome : Outcome) (end : End) → outcome.end ≡ Some end →
 status_of_end outcome end is h = rw is (subst (λ e. IfSome e (λ x. status x ≡ outcome.status)) is h)
 
 -- where the replay was made
-pub replay_loaded : (file trace : List ℕ) (before after : Seen) (outcome : Outcome) (program : Table) (t : Trace) → IsLoaded (told before.files.held file) program → IsTraced (told before.files.held trace) t
+pub replay_loaded : (file trace : List ℕ) (before after : Seen) (outcome : Outcome) (program : Table) (t : Trace) → IsLoaded (told before.files.held file) program → IsHeldAs (IsTextOfTrace t) (told before.files.held trace)
     → after.files.read_faults ≡ before.files.read_faults
     → ReplayOf program t before.out after.out outcome
     → ReplayWritten before.out after.out before.err after.err outcome
@@ -108,22 +94,13 @@ replay_loaded file trace before after outcome program t loaded traced reads r wr
     ]
     | inr m ↦ inr m
   ];
-  reads = record {
-    missing = λ name among none. absurd (elim (one_of_two file trace name among) [
-      | inl e ↦ missing_loaded (told before.files.held file) program (subst (λ n. told before.files.held n ≡ Some None) e none) loaded
-      | inr e ↦ missing_held (told before.files.held trace) traced.bytes (subst (λ n. told before.files.held n ≡ Some None) e none) traced.read
-    ]);
-    must_refuse = λ bytes kind at given there refused calm. absurd (found_refused file before.files after.files bytes given program kind at loaded refused);
-    must_refuse_scope = λ bytes kind at given there refused calm. absurd (found_out_of_scope file before.files after.files bytes given program kind at loaded refused);
-    failed_read = λ failed. absurd (failed reads);
-    failed_write = λ failed. elim r.statuses [
-      | inl e ↦ elim e [
-        | inl ended ↦ must_tell before after outcome.status (inl ended) none failed
-        | inr eight ↦ absurd (no_failure (none (λ seven. omega (arith, eight, seven)) (λ six. omega (arith, eight, six))) failed)
-      ]
-      | inr six ↦ inr (inl six)
-    ];
-  };
+  reads = reads_pair file trace before after outcome program (IsTextOfTrace t) loaded traced reads (λ failed. elim r.statuses [
+    | inl e ↦ elim e [
+      | inl ended ↦ must_tell before after outcome.status (inl ended) none failed
+      | inr eight ↦ absurd (no_failure (none (λ seven. omega (arith, eight, seven)) (λ six. omega (arith, eight, six))) failed)
+    ]
+    | inr six ↦ inr (inl six)
+  ]);
   must_refuse_trace = λ bytes text other kind line given_file source given_trace refusal calm. absurd (found_trace_refused (told before.files.held trace) text t kind line given_trace traced refusal);
   refused = λ four. absurd (not_four outcome.status r.statuses four);
   not_written = written.not_written;

@@ -1,5 +1,5 @@
 -- From what was read and counted to what is owed to a check.
-use Rattle.std.proofs.Common.{◌≡◌, ◌≢◌, ℕ, List, [], refl, sym, ◌∙◌, ap, subst, inl, inr}
+use Rattle.std.proofs.Common.{◌≡◌, ◌≢◌, ℕ, List, [], ◌∷◌, refl, sym, ◌∙◌, ap, subst, inl, inr}
 use Rattle.std.specs.Prelude.{◌⊎◌, Option, None, Err}
 use Rattle.std.specs.Io.KnownBytes.{append_known}
 use Rattle.core_syntax.specs.Table.{Table}
@@ -8,20 +8,22 @@ use Rattle.world_io.specs.Held.{told}
 use Rattle.world_io.specs.Taken.{TookPrefix}
 use Rattle.world_io.proofs.TakenLemmas.{TookPrefix-none, append_known-nil}
 use Rattle.serial_model.specs.declared.end.End.{End}
-use Rattle.chocola.specs.declared.outcome.Outcome.{Outcome}
-use Rattle.chocola.specs.declared.outcome.Detail.TheVariants.{Nothing}
-use Rattle.chocola.specs.declared.load.LoadNo.{LoadNo}
-use Rattle.chocola.specs.Check.{check_line}
+use Rattle.command_phases.specs.declared.outcome.Outcome.{Outcome}
+use Rattle.command_phases.specs.declared.outcome.Detail.TheVariants.{Nothing}
+use Rattle.command_phases.specs.declared.load.LoadNo.{LoadNo}
+use Rattle.command_phases.specs.Check.{check_line}
 use Rattle.chocola.specs.CheckAnswers.{CheckAnswers}
-use Rattle.chocola.specs.LineWritten.{SaysLine}
-use Rattle.chocola.specs.Lines.{load_line, line_of, line_begun}
-use Rattle.chocola.specs.Load.{IsLoaded, Loads}
-use Rattle.chocola.specs.Outcome.{IsEnded, load_status, load_detail}
-use Rattle.chocola.specs.Seen.{Seen, IsUntouched}
-use Rattle.chocola.specs.Unrun.{IsUnrun}
-use Rattle.chocola.specs.Written.{IsWritten}
-use Rattle.chocola.proofs.Loading.{error_checks}
-use Rattle.chocola.proofs.Answering.{idle_error, reads_error, reads_loaded, refused_error, says_error, error_not_ended, error_status, error_detail, not_three, not_four}
+use Rattle.command_phases.specs.LineWritten.{SaysLine}
+use Rattle.command_phases.specs.Lines.{load_line, line_of, line_begun}
+use Rattle.command_phases.specs.Load.{IsLoaded, Loads}
+use Rattle.command_phases.specs.Outcome.{IsEnded, load_status, load_detail}
+use Rattle.command_phases.specs.Seen.{Seen, IsUntouched}
+use Rattle.command_phases.specs.SourceAnswers.{Says}
+use Rattle.command_phases.specs.Unrun.{IsUnrun}
+use Rattle.command_phases.specs.Written.{IsWritten}
+use Rattle.command_phases.proofs.Loading.{error_checks}
+use Rattle.command_phases.proofs.Statuses.{not_three, not_four}
+use Rattle.command_phases.proofs.Unloaded.{idle_error, reads_error, reads_loaded, refused_error, says_error, error_not_ended, error_status, error_detail}
 
 pub check_error : (file : List ℕ) (before after : Seen) (outcome : Outcome) (error : LoadNo) → Loads file before.files after.files (Err error)
     → IsUnrun (load_status error) (load_detail error) outcome → after.out.taken ≡ before.out.taken → IsUntouched before after
@@ -52,6 +54,19 @@ no_line s end h none = elim h [ inl z ↦ rw z refl | inr x ↦ rw x refl ]
 no_line_begun : (s : ℕ) (end : Option End) → (s ≡ 0) ⊎ (s ≡ 7) → end ≡ None → line_begun [] s Nothing end ≡ []
 no_line_begun s end h none = elim h [ inl z ↦ rw z refl | inr x ↦ rw (x, none) refl ]
 
+-- nor is anything said
+pub says_nothing : (names : List (List ℕ)) (before after : Seen) (outcome : Outcome) → (outcome.status ≡ 0) ⊎ (outcome.status ≡ 7) → IsUnrun outcome.status Nothing outcome
+    → after.err ≡ before.err → Says names before after outcome
+says_nothing names before after outcome status unrun same =
+    let silent : after.err.taken ≡ before.err.taken = ap (λ sink. sink.taken) same in
+    record {
+      unread = [];
+      not_read = λ three. absurd (not_three outcome.status (inl (ended outcome.status status)) three);
+      said = rw (unrun.detail, no_line outcome.status outcome.end status unrun.end) (λ calm. silent ∙ sym (append_known-nil before.err.taken));
+      said_at_most = rw (unrun.detail, no_line_begun outcome.status outcome.end status unrun.end) (TookPrefix-none before.err.taken after.err.taken [] silent);
+      end_said = λ e written. rw unrun.end (silent ∙ sym (append_known-nil before.err.taken));
+    }
+
 pub check_loaded : (file : List ℕ) (before after : Seen) (outcome : Outcome) (program : Table) → IsLoaded (told before.files.held file) program
     → (outcome.status ≡ 0) ⊎ (outcome.status ≡ 7) → TookPrefix before.out.taken after.out.taken (check_line program)
     → (IsWritten outcome.status before.out after.out → after.out.taken ≡ append_known before.out.taken (check_line program))
@@ -59,7 +74,6 @@ pub check_loaded : (file : List ℕ) (before after : Seen) (outcome : Outcome) (
     → IsUnrun outcome.status Nothing outcome → IsUntouched before after → after.err ≡ before.err
     → after.files.read_faults ≡ before.files.read_faults → CheckAnswers file before after outcome
 check_loaded file before after outcome program loaded status prefix whole fault unfailed unrun files same reads =
-    let silent : after.err.taken ≡ before.err.taken = ap (λ sink. sink.taken) same in
     record {
       statuses = inl (ended outcome.status status);
       checked = λ e. record { bytes = loaded.bytes; program = program; read = loaded.read; source = loaded.source; done = status; prefix = prefix; all_when_written = whole };
@@ -73,11 +87,5 @@ check_loaded file before after outcome program loaded status prefix whole fault 
       files = files;
       idle = λ e. absurd (e (ended outcome.status status));
       detail = λ apart. unrun.detail;
-      says = record {
-        unread = [];
-        not_read = λ three. absurd (not_three outcome.status (inl (ended outcome.status status)) three);
-        said = rw (unrun.detail, no_line outcome.status outcome.end status unrun.end) (λ calm. silent ∙ sym (append_known-nil before.err.taken));
-        said_at_most = rw (unrun.detail, no_line_begun outcome.status outcome.end status unrun.end) (TookPrefix-none before.err.taken after.err.taken [] silent);
-        end_said = λ e written. rw unrun.end (silent ∙ sym (append_known-nil before.err.taken));
-      };
+      says = says_nothing (file ∷ []) before after outcome status unrun same;
     }

@@ -11,12 +11,12 @@ use Rattle.serial_model.specs.declared.end.End.{End}
 use Rattle.serial_model.specs.declared.trace.Trace.{Trace}
 use Rattle.world_io.specs.Taken.{CountsWrite, TookPrefix}
 use Rattle.world_io.specs.declared.sink.Failed.{Failed}
-use Rattle.chocola.specs.declared.outcome.Outcome.{Outcome}
-use Rattle.chocola.specs.declared.outcome.Detail.TheVariants.{Nothing}
-use Rattle.chocola.specs.EndWritten.{EndWritten}
-use Rattle.chocola.specs.Outcome.{Finished, end_unless_memory}
+use Rattle.command_phases.specs.declared.outcome.Outcome.{Outcome}
+use Rattle.command_phases.specs.declared.outcome.Detail.TheVariants.{Nothing}
+use Rattle.command_phases.specs.EndWritten.{EndWritten}
+use Rattle.command_phases.specs.Outcome.{Finished, end_unless_memory}
 use Rattle.chocola.specs.ProgramAnswers.{ProgramAnswers}
-use Rattle.chocola.specs.Seen.{Seen}
+use Rattle.command_phases.specs.Seen.{Seen}
 use Rattle.chocola.proofs.Finishes.{Finished-of, none_counted, over_unless, rose, some_unless, status_unless, wrote_whole}
 use Rattle.chocola.proofs.Tracing.{KeepsTrace-of}
 

@@ -11,9 +11,9 @@ use Rattle.serial_model.specs.declared.end.End.{End}
 use Rattle.serial_model.specs.State.{Setup, State, opening}
 use Rattle.serial_model.specs.Replay.{replay, replay_from, IsOver, status}
 use Rattle.serial_machine.specs.Progress.{Progress, state_of}
-use Rattle.chocola.specs.declared.outcome.Outcome.{Outcome}
-use Rattle.chocola.specs.Outcome.{IsEnded, Finished, end_unless_memory}
-use Rattle.chocola.specs.Written.{IsWritten}
+use Rattle.command_phases.specs.declared.outcome.Outcome.{Outcome}
+use Rattle.command_phases.specs.Outcome.{IsEnded, Finished, end_unless_memory}
+use Rattle.command_phases.specs.Written.{IsWritten}
 use Rattle.chocola.proofs.UnitsMade.{all_units_made}
 
 -- the state that is there

@@ -12,18 +12,18 @@ use Rattle.serial_machine.specs.Progress.{Progress, state_of}
 use Rattle.world_io.specs.Seen.{SinkSeen}
 use Rattle.world_io.specs.Taken.{CountsWrite}
 use Rattle.world_io.specs.declared.sink.Failed.{Failed}
-use Rattle.chocola.specs.declared.outcome.Outcome.{Outcome}
-use Rattle.chocola.specs.declared.outcome.Detail.TheVariants as detail
+use Rattle.command_phases.specs.declared.outcome.Outcome.{Outcome}
+use Rattle.command_phases.specs.declared.outcome.Detail.TheVariants as detail
 use Rattle.chocola.specs.declared.replay.Replayed.TheVariants.{Agrees, Differs}
-use Rattle.chocola.specs.Outcome.{IsEnded, Finished}
+use Rattle.command_phases.specs.Outcome.{IsEnded, Finished}
 use Rattle.chocola.specs.Replayed.{IsRefusedNext, IsFound, ReplaysTo}
 use Rattle.chocola.specs.ReplayAnswers.{setup_of, Replays, Agreeing, Differing, ReplayOf}
-use Rattle.chocola.specs.Lines.{detail_line}
+use Rattle.command_phases.specs.Lines.{detail_line}
 use Rattle.chocola.specs.ReplayWritten.{ReplayWritten}
-use Rattle.chocola.specs.SaysOutcome.{SaysOutcome}
-use Rattle.chocola.specs.WrittenAfter.{WritesAfter}
+use Rattle.command_phases.specs.SaysOutcome.{SaysOutcome}
+use Rattle.command_phases.specs.WrittenAfter.{WritesAfter}
 use Rattle.chocola.proofs.Finishes.{the_state, at_state, none_counted, rose}
-use Rattle.chocola.proofs.Answering.{apart_from}
+use Rattle.command_phases.proofs.Statuses.{apart_from}
 
 take_whole : (entries : List Entry) → take (length entries) entries ≡ entries
 take_whole entries = grind (arith, common_steps)

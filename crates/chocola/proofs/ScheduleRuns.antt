@@ -1,31 +1,31 @@
 -- From a run by a schedule to what is owed to it.
-use Rattle.std.proofs.Common.{◌≡◌, ◌≢◌, ◌∙◌, ℕ, List, [], ◌∷◌, subst, inl, inr}
-use Rattle.std.specs.Prelude.{◌⊎◌, Option, None, Some}
+use Rattle.std.proofs.Common.{◌≡◌, ◌≢◌, ◌∙◌, ℕ, List, [], subst, inl, inr}
+use Rattle.std.specs.Prelude.{◌⊎◌, Option}
 use Rattle.core_syntax.specs.Table.{Table}
+use Rattle.schedule_text.proofs.Unique.{not_refused}
+use Rattle.schedule_text.specs.Schedule.{IsTextOfSchedule, schedule_refusal}
 use Rattle.schedule_text.specs.declared.line.Line.{Line}
 use Rattle.serial_model.specs.Actors.{IsWithoutActors}
 use Rattle.serial_model.specs.Limits.{Budget}
 use Rattle.serial_model.specs.State.{Setup}
 use Rattle.world_io.specs.Counts.{Rose}
 use Rattle.world_io.specs.Held.{told}
-use Rattle.chocola.specs.declared.outcome.Outcome.{Outcome}
-use Rattle.chocola.specs.Load.{IsLoaded}
-use Rattle.chocola.specs.LoadSchedule.{IsScheduled}
-use Rattle.chocola.specs.Outcome.{IsEnded}
+use Rattle.command_phases.specs.declared.outcome.Outcome.{Outcome}
+use Rattle.command_phases.specs.Load.{IsLoaded}
+use Rattle.command_phases.specs.LoadPair.{IsHeldAs}
+use Rattle.command_phases.specs.Outcome.{IsEnded}
 use Rattle.chocola.specs.ProgramAnswers.{ProgramAnswers}
-use Rattle.chocola.specs.SaysOutcome.{SaysOutcome}
+use Rattle.command_phases.specs.SaysOutcome.{SaysOutcome}
 use Rattle.chocola.specs.ScheduleAnswers.{IsScheduleRun, Reports, ScheduleAnswers}
-use Rattle.chocola.specs.Seen.{Seen, NoWriteFailed, seen}
-use Rattle.chocola.specs.SourceAnswers.{ReadsSource}
+use Rattle.command_phases.specs.Seen.{Seen, NoWriteFailed, seen}
 use Rattle.world_io.specs.Seen.{FilesSeen}
-use Rattle.chocola.proofs.Answered.{one_of_two}
-use Rattle.chocola.proofs.Answering.{is_done, must_tell, no_run, not_four, not_three}
-use Rattle.chocola.proofs.Loading.{found_out_of_scope, found_program, found_refused, missing_held, missing_loaded}
-use Rattle.chocola.proofs.ScheduleLoads.{found_schedule_refused}
+use Rattle.command_phases.proofs.Statuses.{is_done, must_tell, no_run, not_four, not_three}
+use Rattle.command_phases.proofs.Loading.{found_program, held_bytes}
+use Rattle.command_phases.proofs.PairErrors.{reads_pair}
 use Rattle.chocola.proofs.Tracing.{KeepsTrace-read}
 
 module _ (file schedule : List ℕ) (limits : Budget) (trace : Option (List ℕ)) (before after : Seen) (mid : FilesSeen) (outcome : Outcome) (program : Table) (lines : List Line)
-    (loaded : IsLoaded (told before.files.held file) program) (covered : IsWithoutActors program) (scheduled : IsScheduled (told before.files.held schedule) lines)
+    (loaded : IsLoaded (told before.files.held file) program) (covered : IsWithoutActors program) (scheduled : IsHeldAs (IsTextOfSchedule lines) (told before.files.held schedule))
     (quiet : mid.read_faults ≡ before.files.read_faults) (same : mid.held ≡ before.files.held) (none : mid.write_faults ≡ before.files.write_faults) where
   abbrev setup : Setup
   setup = record { program = program; limits = limits }
@@ -36,18 +36,6 @@ module _ (file schedule : List ℕ) (limits : Budget) (trace : Option (List ℕ)
 
     rises : outcome.status ≡ 7 → Rose before.out.faults after.out.faults ⊎ (Rose before.err.faults after.err.faults ⊎ Rose before.files.write_faults after.files.write_faults)
     rises = rw none at answers.not_written
-
-    reads_loaded : ReadsSource file (file ∷ schedule ∷ []) before after outcome
-    reads_loaded = record {
-      missing = λ name among gone. absurd (elim (one_of_two file schedule name among) [
-        | inl e ↦ missing_loaded (told before.files.held file) program (subst (λ n. told before.files.held n ≡ Some None) e gone) loaded
-        | inr e ↦ missing_held (told before.files.held schedule) scheduled.bytes (subst (λ n. told before.files.held n ≡ Some None) e gone) scheduled.read
-      ]);
-      must_refuse = λ bytes kind at given there refused calm. absurd (found_refused file before.files after.files bytes given program kind at loaded refused);
-      must_refuse_scope = λ bytes kind at given there refused calm. absurd (found_out_of_scope file before.files after.files bytes given program kind at loaded refused);
-      failed_read = λ failed. absurd (failed (answers.reads ∙ quiet));
-      failed_write = must_tell before after outcome.status answers.statuses unfailed;
-    }
 
     pub schedule_loaded : (IsEnded outcome.status → Reports setup lines before.err after.err outcome)
         → ((IsEnded outcome.status → ⊥) → SaysOutcome outcome.status outcome.detail outcome.end before.err after.err)
@@ -74,11 +62,12 @@ module _ (file schedule : List ℕ) (limits : Budget) (trace : Option (List ℕ)
           complete = λ bytes text other others is source without given is_text calm. is_done outcome answers.statuses answers.ended
               (answers.finished.status_is_the_ends (λ seven. elim (rises seven) [ inl o ↦ calm.out o | inr x ↦ elim x [ inl e ↦ calm.err e | inr w ↦ calm.writes w ] ]));
           keeps = KeepsTrace-read limits trace before after mid outcome same none answers.keeps;
-          reads = reads_loaded;
+          reads = reads_pair file schedule before after outcome program (IsTextOfSchedule lines) loaded scheduled (answers.reads ∙ quiet) (must_tell before after outcome.status answers.statuses unfailed);
           must_refuse_actors = λ bytes other is source actors there calm.
               absurd (actors (subst (λ p. IsWithoutActors p) (found_program file before.files after.files bytes is program other loaded source) covered));
           must_refuse_schedule = λ bytes text other kind at is source without given refusal calm.
-              absurd (found_schedule_refused (told before.files.held schedule) text lines kind at given scheduled refusal);
+              let held = held_bytes (told before.files.held schedule) text scheduled.bytes given scheduled.read in
+              absurd (not_refused scheduled.bytes lines kind at scheduled.text (subst (λ b. schedule_refusal b kind at) held refusal));
           refused = λ four. absurd (not_four outcome.status answers.statuses four);
           not_written = rises;
           idle = λ w. absurd (no_run outcome.status answers.statuses w);

@@ -3,16 +3,16 @@ use Rattle.std.proofs.Common.{◌≡◌, ℕ, List, refl, subst, inr, arith, le_
 use Rattle.std.specs.Prelude.{Option, None}
 use Rattle.serial_model.specs.State.{Setup}
 use Rattle.world_io.specs.Seen.{SinkSeen}
-use Rattle.chocola.specs.declared.outcome.Outcome.{Outcome}
-use Rattle.chocola.specs.declared.outcome.Detail.TheVariants.{Nothing}
-use Rattle.chocola.specs.LineWritten.{SaysLine}
-use Rattle.chocola.specs.Lines.{memory_line}
-use Rattle.chocola.specs.Outcome.{IsEnded, Finished}
+use Rattle.command_phases.specs.declared.outcome.Outcome.{Outcome}
+use Rattle.command_phases.specs.declared.outcome.Detail.TheVariants.{Nothing}
+use Rattle.command_phases.specs.LineWritten.{SaysLine}
+use Rattle.command_phases.specs.Lines.{memory_line}
+use Rattle.command_phases.specs.Outcome.{IsEnded, Finished}
 use Rattle.chocola.specs.ProgramAnswers.{ProgramAnswers}
 use Rattle.chocola.specs.ReplayWritten.{ReplayWritten}
-use Rattle.chocola.specs.SaysOutcome.{SaysOutcome}
-use Rattle.chocola.specs.Seen.{Seen}
-use Rattle.chocola.proofs.Answering.{six_not_ended}
+use Rattle.command_phases.specs.SaysOutcome.{SaysOutcome}
+use Rattle.command_phases.specs.Seen.{Seen}
+use Rattle.command_phases.proofs.Statuses.{six_not_ended}
 use Rattle.chocola.proofs.Tracing.{KeepsTrace-none}
 
 module _ (outcome : Outcome) (six : outcome.status ≡ 6) where

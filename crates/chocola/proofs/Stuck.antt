@@ -9,7 +9,7 @@ use Rattle.serial_model.specs.Step.{step}
 use Rattle.serial_model.specs.Replay.{replay, replay_from, IsOver}
 use Rattle.serial_model.specs.declared.entry.Entry.{Entry}
 use Rattle.serial_model.specs.declared.trace.Trace.{Trace}
-use Rattle.chocola.specs.declared.outcome.Outcome.{Outcome}
+use Rattle.command_phases.specs.declared.outcome.Outcome.{Outcome}
 use Rattle.chocola.specs.Replayed.{IsRefusedNext}
 use Rattle.chocola.specs.ReplayAnswers.{setup_of, Replays, Differing}
 

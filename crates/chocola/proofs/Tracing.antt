@@ -9,10 +9,10 @@ use Rattle.world_io.specs.Held.{told, IsHeld}
 use Rattle.world_io.specs.Taken.{CountsWrite}
 use Rattle.world_io.specs.Seen.{FilesSeen}
 use Rattle.world_io.specs.declared.sink.Failed.{Failed}
-use Rattle.chocola.specs.declared.outcome.Outcome.{Outcome}
-use Rattle.chocola.specs.Outcome.{IsEnded, end_unless_memory}
-use Rattle.chocola.specs.Seen.{Seen, IsUntouched, seen}
-use Rattle.chocola.specs.Traced.{IsKept, KeepsOthers, KeepsTrace}
+use Rattle.command_phases.specs.declared.outcome.Outcome.{Outcome}
+use Rattle.command_phases.specs.Outcome.{IsEnded, end_unless_memory}
+use Rattle.command_phases.specs.Seen.{Seen, IsUntouched, seen}
+use Rattle.command_phases.specs.Traced.{IsKept, KeepsOthers, KeepsTrace}
 
 -- a run whose trace is kept is at its end
 kept_ends : (s : ℕ) (before after : Seen) → IsKept s before after → IsEnded s

@@ -26,7 +26,7 @@ use Rattle.value_core.specs.Named.{Name, named, with_named, over, made_by}
 use Rattle.serial_model.specs.State.{Setup, UnitState, State, opening}
 use Rattle.value_core.specs.declared.code.Code.TheVariants as code
 use Rattle.serial_model.specs.declared.end.End.TheVariants as end
-use Rattle.serial_model.specs.Step.{step, unless_ended, run_step, unit_step, if_unfinished, goes_on, next_of, does, gets_if_there, after_transaction, around, next_made, take_effects, takes_effect, finishes, released, take_step, begins_turn, queue_of, turn_unit, value_of, becoming, fails, gives, commits, with_unit, with_queue, if_allowed}
+use Rattle.serial_model.specs.Step.{step, unless_ended, run_step, unit_step, if_unfinished, goes_on, next_of, does, gets_if_there, after_transaction, around, next_made, take_effects, takes_effect, finishes, released, take_step, begins_turn, queue_of, turn_unit, value_of, becoming, gives, with_unit, with_queue, if_allowed}
 use Rattle.serial_model.specs.Replay.{replay, replay_from, IsOver}
 use Rattle.serial_model.specs.Task as task
 use Rattle.serial_model.specs.Task.{transaction}

@@ -3,20 +3,22 @@ use Rattle.std.proofs.Common.{◌≡◌, ℕ, List, [], ◌∷◌, refl, subst, 
 use Rattle.std.specs.Prelude.{Option}
 use Rattle.serial_model.specs.Limits.{Budget}
 use Rattle.world_io.specs.Seen.{FilesSeen, SinkSeen}
-use Rattle.chocola.specs.declared.outcome.Outcome.{Outcome}
-use Rattle.chocola.specs.declared.outcome.Detail.TheVariants.{Nothing}
+use Rattle.command_phases.specs.declared.outcome.Outcome.{Outcome}
+use Rattle.command_phases.specs.declared.outcome.Detail.TheVariants.{Nothing}
 use Rattle.chocola.specs.Answers.{Answers}
 use Rattle.chocola.specs.CheckAnswers.{CheckAnswers}
-use Rattle.chocola.specs.LineWritten.{SaysLine}
-use Rattle.chocola.specs.Lines.{memory_line}
-use Rattle.chocola.specs.Outcome.{IsEnded, IsWithoutRun, IsIdle}
+use Rattle.command_phases.specs.LineWritten.{SaysLine}
+use Rattle.command_phases.specs.Lines.{memory_line}
+use Rattle.command_phases.specs.Outcome.{IsEnded, IsWithoutRun, IsIdle}
+use Rattle.chocola.specs.MakeAnswers.{MakeAnswers}
 use Rattle.chocola.specs.ReplayAnswers.{IsReplayed, ReplayAnswers}
 use Rattle.chocola.specs.RunAnswers.{RunAnswers}
 use Rattle.chocola.specs.ScheduleAnswers.{ScheduleAnswers}
-use Rattle.chocola.specs.Seen.{Seen, seen, IsUntouched}
-use Rattle.chocola.specs.SourceAnswers.{ReadsSource, Says}
-use Rattle.chocola.specs.Unrun.{IsUnrun}
-use Rattle.chocola.proofs.Answering.{six_not_ended}
+use Rattle.command_phases.specs.Seen.{Seen, seen, IsUntouched}
+use Rattle.command_phases.specs.SourceAnswers.{ReadsSource, Says}
+use Rattle.command_phases.specs.Unrun.{IsUnrun}
+use Rattle.command_phases.proofs.Statuses.{six_not_ended}
+use Rattle.chocola.proofs.Making.{make_without_memory}
 use Rattle.chocola.proofs.Tracing.{KeepsTrace-none}
 
 module _ (words : List (List ℕ)) (files : FilesSeen) (out err err2 : SinkSeen) (outcome : Outcome) (unrun : IsUnrun 6 Nothing outcome) (line : SaysLine memory_line err err2) where
@@ -130,6 +132,9 @@ module _ (words : List (List ℕ)) (files : FilesSeen) (out err err2 : SinkSeen)
     says = says (file ∷ []);
   }
 
+  make : (number size : ℕ) → MakeAnswers number size before after outcome
+  make number size = make_without_memory number size files out err err2 outcome unrun line
+
   pub without_memory : Answers words before after outcome
   without_memory = record {
     statuses = inl (inr (inr six));
@@ -137,6 +142,7 @@ module _ (words : List (List ℕ)) (files : FilesSeen) (out err err2 : SinkSeen)
     schedule = λ file given limits trace is. schedule file given limits trace;
     replay = λ file trace is. replay file trace;
     check = λ file is. check file;
+    make = λ number size is. make number size;
     no_command = λ is. record { status = inr six; idle = idle; reads = refl; detail = unrun.detail; says = says [] };
     usage = λ two. absurd (omega (arith, six, two));
     no_count_falls = record { reads = le_refl files.read_faults; writes = le_refl files.write_faults; out = le_refl out.faults; err = line.later };

@@ -3,15 +3,16 @@ use Rattle.std.specs.Prelude.{◌≡◌, ℕ, List, Option, None, Some}
 use Rattle.command_words.specs.Said.{command_of}
 use Rattle.command_words.specs.declared.command.Command.TheVariants as said
 use Rattle.serial_model.specs.Limits.{Budget}
-use Rattle.chocola.specs.declared.outcome.Outcome.{Outcome}
+use Rattle.command_phases.specs.declared.outcome.Outcome.{Outcome}
 use Rattle.chocola.specs.CheckAnswers.{CheckAnswers}
+use Rattle.chocola.specs.MakeAnswers.{MakeAnswers}
 use Rattle.chocola.specs.NoAnswers.{NoCommand}
-use Rattle.chocola.specs.Outcome.{IsStatus}
+use Rattle.command_phases.specs.Outcome.{IsStatus}
 use Rattle.chocola.specs.ReplayAnswers.{ReplayAnswers}
 use Rattle.chocola.specs.RunAnswers.{RunAnswers}
 use Rattle.chocola.specs.ScheduleAnswers.{ScheduleAnswers}
-use Rattle.chocola.specs.Seen.{Seen, IsLater}
-use Rattle.chocola.specs.Status as exit
+use Rattle.command_phases.specs.Seen.{Seen, IsLater}
+use Rattle.command_phases.specs.Status as exit
 
 -- what is owed to each command, and to words that say none
 pub record Answers (words : List (List ℕ)) (before after : Seen) (outcome : Outcome) : Type 0 where
@@ -22,6 +23,7 @@ pub record Answers (words : List (List ℕ)) (before after : Seen) (outcome : Ou
       → ScheduleAnswers file schedule limits trace before after outcome
   pub replay : (file trace : List ℕ) → command_of words ≡ Some (said.Replay file trace) → ReplayAnswers file trace before after outcome
   pub check : (file : List ℕ) → command_of words ≡ Some (said.Check file) → CheckAnswers file before after outcome
+  pub make : (number size : ℕ) → command_of words ≡ Some (said.Make number size) → MakeAnswers number size before after outcome
   pub no_command : command_of words ≡ None → NoCommand before after outcome
   pub usage : outcome.status ≡ exit.usage → command_of words ≡ None
   pub no_count_falls : IsLater before after

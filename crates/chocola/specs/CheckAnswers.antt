@@ -5,15 +5,15 @@ use Rattle.world_io.specs.Counts.{Rose}
 use Rattle.world_io.specs.Held.{told, IsHeld}
 use Rattle.world_io.specs.Taken.{TookPrefix}
 use Rattle.core_syntax.specs.Table.{Table}
-use Rattle.chocola.specs.declared.outcome.Outcome.{Outcome}
-use Rattle.chocola.specs.declared.outcome.Detail.TheVariants.{Nothing}
-use Rattle.chocola.specs.Check.{check_line}
-use Rattle.chocola.specs.Program.{IsProgramOf}
-use Rattle.chocola.specs.Outcome.{IsEnded, IsOfSource, IsIdle}
-use Rattle.chocola.specs.Seen.{Seen, IsCalm, IsGiven, IsUntouched}
-use Rattle.chocola.specs.SourceAnswers.{IsRefusedSource, ReadsSource, Says}
-use Rattle.chocola.specs.Status as exit
-use Rattle.chocola.specs.Written.{IsWritten}
+use Rattle.command_phases.specs.declared.outcome.Outcome.{Outcome}
+use Rattle.command_phases.specs.declared.outcome.Detail.TheVariants.{Nothing}
+use Rattle.command_phases.specs.Check.{check_line}
+use Rattle.command_phases.specs.Program.{IsProgramOf}
+use Rattle.command_phases.specs.Outcome.{IsEnded, IsOfSource, IsIdle}
+use Rattle.command_phases.specs.Seen.{Seen, IsCalm, IsGiven, IsUntouched}
+use Rattle.command_phases.specs.SourceAnswers.{IsRefusedSource, ReadsSource, Says}
+use Rattle.command_phases.specs.Status as exit
+use Rattle.command_phases.specs.Written.{IsWritten}
 
 -- The file holds a source with this program by scope, where it is told what it holds: a front of the line of its counts
 -- went to standard output, and all of it where it was written.

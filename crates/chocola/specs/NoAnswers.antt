@@ -1,11 +1,11 @@
 -- What is owed to words that are refused.
 use Rattle.std.specs.Prelude.{◌≡◌, ◌⊎◌, []}
-use Rattle.chocola.specs.declared.outcome.Outcome.{Outcome}
-use Rattle.chocola.specs.declared.outcome.Detail.TheVariants.{Nothing}
-use Rattle.chocola.specs.Outcome.{IsIdle}
-use Rattle.chocola.specs.Seen.{Seen}
-use Rattle.chocola.specs.SourceAnswers.{Says}
-use Rattle.chocola.specs.Status as exit
+use Rattle.command_phases.specs.declared.outcome.Outcome.{Outcome}
+use Rattle.command_phases.specs.declared.outcome.Detail.TheVariants.{Nothing}
+use Rattle.command_phases.specs.Outcome.{IsIdle}
+use Rattle.command_phases.specs.Seen.{Seen}
+use Rattle.command_phases.specs.SourceAnswers.{Says}
+use Rattle.command_phases.specs.Status as exit
 
 -- nothing is read, run or written, and the words are said to be refused, or there was no memory
 pub record NoCommand (before after : Seen) (outcome : Outcome) : Type 0 where

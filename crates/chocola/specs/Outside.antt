@@ -3,7 +3,7 @@ use Rattle.std.specs.Prelude.{⊤}
 use Rattle.std.specs.Borrow.{MutBor}
 use Rattle.world_io.specs.Seen.{FilesSeen, SinkSeen}
 use Rattle.chocola.specs.declared.outside.Outside.{Outside}
-use Rattle.chocola.specs.Seen.{Seen, seen}
+use Rattle.command_phases.specs.Seen.{Seen, seen}
 
 module _ {F K E : Type 0} (files : F → FilesSeen) (out : K → SinkSeen) (err : E → SinkSeen) where
   -- as they are passed

@@ -2,12 +2,12 @@
 use Rattle.std.specs.Prelude.{◌≡◌, ◌≢◌, ℕ, ◌⊎◌, List, Option, IsSome}
 use Rattle.world_io.specs.Counts.{Rose}
 use Rattle.serial_model.specs.State.{Setup}
-use Rattle.chocola.specs.declared.outcome.Outcome.{Outcome}
-use Rattle.chocola.specs.declared.outcome.Detail.TheVariants.{Nothing}
-use Rattle.chocola.specs.Outcome.{IsEnded, Finished}
-use Rattle.chocola.specs.Seen.{Seen, NoWriteFailed}
-use Rattle.chocola.specs.Status as exit
-use Rattle.chocola.specs.Traced.{KeepsTrace}
+use Rattle.command_phases.specs.declared.outcome.Outcome.{Outcome}
+use Rattle.command_phases.specs.declared.outcome.Detail.TheVariants.{Nothing}
+use Rattle.command_phases.specs.Outcome.{IsEnded, Finished}
+use Rattle.command_phases.specs.Seen.{Seen, NoWriteFailed}
+use Rattle.command_phases.specs.Status as exit
+use Rattle.command_phases.specs.Traced.{KeepsTrace}
 
 pub record ProgramAnswers (setup : Setup) (trace : Option (List ℕ)) (before after : Seen) (outcome : Outcome) : Type 0 where
   pub statuses : IsEnded outcome.status ⊎ (outcome.status ≡ exit.no_memory)

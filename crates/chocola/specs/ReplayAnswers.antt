@@ -11,16 +11,16 @@ use Rattle.serial_model.specs.Trace.{IsTextOfTrace, trace_refusal}
 use Rattle.serial_model.specs.declared.end.End.{End}
 use Rattle.serial_model.specs.declared.trace.Trace.{Trace}
 use Rattle.serial_model.specs.declared.trace.LineKind.{LineKind}
-use Rattle.chocola.specs.declared.outcome.Outcome.{Outcome}
-use Rattle.chocola.specs.declared.outcome.Detail.TheVariants.{Nothing, Differs}
+use Rattle.command_phases.specs.declared.outcome.Outcome.{Outcome}
+use Rattle.command_phases.specs.declared.outcome.Detail.TheVariants.{Nothing, Differs}
 use Rattle.chocola.specs.Replayed.{IsRefusedNext, IsFound}
-use Rattle.chocola.specs.Lines.{detail_line}
-use Rattle.chocola.specs.Load.{IsTraceDue}
-use Rattle.chocola.specs.Program.{IsProgramOf}
-use Rattle.chocola.specs.Outcome.{IsEnded, IsWithoutRun, IsStatusOfEnd, IsIdle, Finished, refused_trace}
-use Rattle.chocola.specs.Seen.{Seen, ReadsWell, IsCalm, IsGiven, IsUntouched}
-use Rattle.chocola.specs.SourceAnswers.{IsRefusedSource, ReadsSource, Says}
-use Rattle.chocola.specs.Status as exit
+use Rattle.command_phases.specs.Lines.{detail_line}
+use Rattle.command_phases.specs.LoadPair.{IsTraceDue}
+use Rattle.command_phases.specs.Program.{IsProgramOf}
+use Rattle.command_phases.specs.Outcome.{IsEnded, IsWithoutRun, IsStatusOfEnd, IsIdle, Finished, refused_trace}
+use Rattle.command_phases.specs.Seen.{Seen, ReadsWell, IsCalm, IsGiven, IsUntouched}
+use Rattle.command_phases.specs.SourceAnswers.{IsRefusedSource, ReadsSource, Says}
+use Rattle.command_phases.specs.Status as exit
 
 -- the program, under the limits of the trace
 abbrev pub setup_of : Table → Trace → Setup

@@ -3,10 +3,10 @@ use Rattle.std.specs.Prelude.{◌≡◌, ◌≢◌, ◌≤◌, ◌⊎◌}
 use Rattle.std.specs.Io.KnownBytes.{append_known}
 use Rattle.world_io.specs.Counts.{Rose}
 use Rattle.world_io.specs.Seen.{SinkSeen}
-use Rattle.chocola.specs.declared.outcome.Outcome.{Outcome}
-use Rattle.chocola.specs.Lines.{detail_line}
-use Rattle.chocola.specs.SaysOutcome.{SaysOutcome}
-use Rattle.chocola.specs.Status as exit
+use Rattle.command_phases.specs.declared.outcome.Outcome.{Outcome}
+use Rattle.command_phases.specs.Lines.{detail_line}
+use Rattle.command_phases.specs.SaysOutcome.{SaysOutcome}
+use Rattle.command_phases.specs.Status as exit
 
 -- The cause of an outcome that was not written, and of each other one; and what standard error took. Where the replay
 -- differs, its line was written whole.

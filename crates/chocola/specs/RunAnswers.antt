@@ -4,14 +4,14 @@ use Rattle.world_io.specs.Counts.{Rose}
 use Rattle.world_io.specs.Held.{told, IsHeld}
 use Rattle.core_syntax.specs.Table.{Table}
 use Rattle.serial_model.specs.Limits.{Budget}
-use Rattle.chocola.specs.declared.outcome.Outcome.{Outcome}
-use Rattle.chocola.specs.declared.outcome.Detail.TheVariants.{Nothing}
-use Rattle.chocola.specs.Program.{IsProgramOf}
-use Rattle.chocola.specs.Outcome.{IsEnded, IsWithoutRun, IsOfSource, IsStatusOfEnd, IsIdle, Finished}
-use Rattle.chocola.specs.Seen.{Seen, IsCalm, IsGiven}
-use Rattle.chocola.specs.SourceAnswers.{IsRefusedSource, ReadsSource, Says}
-use Rattle.chocola.specs.Status as exit
-use Rattle.chocola.specs.Traced.{KeepsTrace}
+use Rattle.command_phases.specs.declared.outcome.Outcome.{Outcome}
+use Rattle.command_phases.specs.declared.outcome.Detail.TheVariants.{Nothing}
+use Rattle.command_phases.specs.Program.{IsProgramOf}
+use Rattle.command_phases.specs.Outcome.{IsEnded, IsWithoutRun, IsOfSource, IsStatusOfEnd, IsIdle, Finished}
+use Rattle.command_phases.specs.Seen.{Seen, IsCalm, IsGiven}
+use Rattle.command_phases.specs.SourceAnswers.{IsRefusedSource, ReadsSource, Says}
+use Rattle.command_phases.specs.Status as exit
+use Rattle.command_phases.specs.Traced.{KeepsTrace}
 
 -- The serializability theorem: the run, under these limits, of the program of a source with these bytes.
 pub record IsRunOf (bytes : List ℕ) (limits : Budget) (before after : Seen) (outcome : Outcome) : Type 0 where

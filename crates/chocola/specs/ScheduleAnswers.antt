@@ -10,19 +10,19 @@ use Rattle.serial_model.specs.declared.trace.LineKind.{LineKind}
 use Rattle.world_io.specs.Counts.{Rose}
 use Rattle.world_io.specs.Held.{told, IsHeld}
 use Rattle.world_io.specs.Seen.{SinkSeen}
-use Rattle.chocola.specs.declared.outcome.Outcome.{Outcome}
-use Rattle.chocola.specs.declared.outcome.Detail.{Detail}
-use Rattle.chocola.specs.declared.outcome.Detail.TheVariants.{Nothing}
+use Rattle.command_phases.specs.declared.outcome.Outcome.{Outcome}
+use Rattle.command_phases.specs.declared.outcome.Detail.{Detail}
+use Rattle.command_phases.specs.declared.outcome.Detail.TheVariants.{Nothing}
 use Rattle.chocola.specs.Driven.{IsReportOf}
-use Rattle.chocola.specs.Load.{IsLoaded}
-use Rattle.chocola.specs.LoadSchedule.{HasActors, IsScheduleDue}
-use Rattle.chocola.specs.Outcome.{IsEnded, IsWithoutRun, IsOfSource, IsStatusOfEnd, IsIdle, Finished, not_yet, refused_schedule}
-use Rattle.chocola.specs.Program.{IsProgramOf}
-use Rattle.chocola.specs.SaysReport.{SaysReport}
-use Rattle.chocola.specs.Seen.{Seen, ReadsWell, IsCalm, IsGiven}
-use Rattle.chocola.specs.SourceAnswers.{AreThere, IsRefusedSource, ReadsSource, Says}
-use Rattle.chocola.specs.Status as exit
-use Rattle.chocola.specs.Traced.{KeepsTrace}
+use Rattle.command_phases.specs.Load.{IsLoaded}
+use Rattle.command_phases.specs.LoadPair.{HasActors, IsScheduleDue}
+use Rattle.command_phases.specs.Outcome.{IsEnded, IsWithoutRun, IsOfSource, IsStatusOfEnd, IsIdle, Finished, not_yet, refused_schedule}
+use Rattle.command_phases.specs.Program.{IsProgramOf}
+use Rattle.command_phases.specs.SaysReport.{SaysReport}
+use Rattle.command_phases.specs.Seen.{Seen, ReadsWell, IsCalm, IsGiven}
+use Rattle.command_phases.specs.SourceAnswers.{AreThere, IsRefusedSource, ReadsSource, Says}
+use Rattle.command_phases.specs.Status as exit
+use Rattle.command_phases.specs.Traced.{KeepsTrace}
 
 -- the report of the lines, and what standard error took of it and of the line behind it
 pub record Reports (setup : Setup) (lines : List Line) (old new : SinkSeen) (outcome : Outcome) : Type 0 where

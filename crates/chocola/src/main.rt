@@ -2,22 +2,14 @@
 #![tactic(auto)]
 
 mod check_command;
-mod ends;
-mod fetch;
-mod lines;
-mod load;
-mod load_replay;
-mod load_schedule;
-mod outcome;
+mod make_command;
 mod outside;
 mod replay;
 mod replay_command;
 mod run;
 mod run_command;
 mod schedule_command;
-mod status;
 mod top;
-mod without;
 
 use std::env;
 use std::process::ExitCode;

@@ -3,7 +3,7 @@ ghost use Rattle.serial_model.specs.Replay.{IsOver};
 ghost use Rattle.serial_machine.specs.Progress.{state_of};
 ghost use Rattle.chocola.specs.Replayed.{ReplaysTo, FindsEnd};
 
-use crate::ends::is_same_end;
+use command_phases::is_same_end;
 use serial_machine::{Serial, SerialNo};
 use serial_model::{End, Trace};
 use std::alloc::Global;

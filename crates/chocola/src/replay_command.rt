@@ -1,33 +1,25 @@
-ghost use Rattle.std.specs.Prelude.{◌≡◌, ◌⊎◌, ◌+◌, [], None, Some, IfSome, length};
-ghost use Rattle.std.specs.Io.KnownBytes.{append_known};
+ghost use Rattle.std.specs.Prelude.{◌≡◌, ◌⊎◌, ◌+◌, None, Some, IfSome, length};
 ghost use Rattle.serial_model.specs.Replay.{IsOver};
 ghost use Rattle.serial_machine.specs.Progress.{state_of};
-ghost use Rattle.world_io.specs.Taken.{TookPrefix, Said};
-ghost use Rattle.chocola.specs.LineWritten.{SaysLine};
-ghost use Rattle.chocola.specs.Lines.{detail_line, end_line, given_line, line_of};
-ghost use Rattle.chocola.specs.Outcome.{IsEnded, Finished, given_status, given_detail};
+ghost use Rattle.command_phases.specs.Outcome.{IsEnded, Finished};
+ghost use Rattle.command_phases.specs.Seen.{IsLater};
+ghost use Rattle.command_phases.specs.Status as exit;
 ghost use Rattle.chocola.specs.Outside.{seen_before, seen_after};
 ghost use Rattle.chocola.specs.ReplayAnswers.{ReplayAnswers, ReplayOf};
 ghost use Rattle.chocola.specs.ReplayWritten.{ReplayWritten};
-ghost use Rattle.chocola.specs.Seen.{IsLater};
-ghost use Rattle.chocola.specs.Status as exit;
-ghost use Rattle.chocola.specs.Unrun.{IsUnrun};
-ghost use Rattle.chocola.specs.WrittenAfter.{WritesAfter};
 
-use crate::lines::{end_line, write_detail};
-use crate::load_replay::{Given, GivenNo, load_replay};
-use crate::outcome::{Detail, Outcome};
 use crate::outside::Outside;
 use crate::replay::{Replayed, replay};
-use crate::run::opened;
-use crate::run_command::say_end;
-use crate::status::{DIFFERS, NOT_WRITTEN};
-use crate::without::{not_read, out_of_memory, refuse, stopped, without_program};
+use crate::run::{opened, stopped};
+use command_phases::{
+    Detail, Given, Outcome, Part, end_line, load_replay, out_of_memory, say_differs, say_end,
+    without_pair,
+};
 use serial_machine::Serial;
 use serial_model::{End, Entry};
 use std::alloc::Global;
 use value_core::Text;
-use world_io::{Failed, Files, Sink, write_all};
+use world_io::{Files, Sink, write_all};
 
 /// Replays the trace of that name on the program of that file.
 pub fn replay_file<'a, F: Files, K: Sink, E: Sink>(
@@ -44,29 +36,9 @@ pub fn replay_file<'a, F: Files, K: Sink, E: Sink>(
     let Outside { files, out, err } = outside;
     let given = match load_replay(alloc, files, file, trace) {
         Ok(given) => given,
-        Err(error) => return without_replay(alloc, error, file, trace, err),
+        Err(error) => return without_pair(alloc, error, Part::Trace, file, trace, err),
     };
     replay_given(alloc, given, out, err)
-}
-
-/// The outcome where there is no replay of these files.
-fn without_replay<E: Sink>(
-    alloc: Global,
-    error: GivenNo,
-    file: &Text,
-    trace: &Text,
-    err: &mut E,
-) -> Outcome
-    ensures outcome { IsUnrun (given_status error) (given_detail error) result }
-    ensures says { SaysLine (given_line file.now trace.now error) (E.seen err.old) (E.seen err.new) }
-{
-    match error {
-        GivenNo::Source(error) => without_program(alloc, error, file, err),
-        GivenNo::TraceNotRead => not_read(alloc, trace, err),
-        GivenNo::TraceRefused { kind, line } => {
-            refuse(alloc, Detail::refused_trace(kind, line), err)
-        }
-    }
 }
 
 /// Replays what is given, and writes what it printed and its line.
@@ -136,7 +108,7 @@ fn differ<K: Sink, E: Sink>(
         found,
     };
     let written = write_all(serial.output(), out);
-    let status = say_differs_after(written, &detail, err);
+    let status = say_differs(written, &detail, err);
     Outcome {
         status,
         history: serial.into_history(),
@@ -150,22 +122,4 @@ fn line_after(entries: &[Entry]) -> u64
     ensures { result ≡ 3 + length entries.now }
 {
     entries.len() as u64 + 3
-}
-
-/// Writes the line of a replay that differs, where the bytes before it were written. It answers that it differs, or that
-/// something was not written.
-fn say_differs_after<E: Sink>(written: Result<(), Failed>, detail: &Detail, err: &mut E) -> u8
-    ensures status { (result ≡ exit.not_written) ⊎ (result ≡ exit.differs) }
-    ensures after { WritesAfter written (E.seen err.old) (E.seen err.new) result }
-    ensures whole { result ≡ exit.differs → (E.seen err.new).taken ≡ append_known (E.seen err.old).taken (detail_line detail.now) }
-    ensures said { Said (E.seen err.old) (E.seen err.new) (line_of [] result detail.now None) }
-    ensures said_at_most { TookPrefix (E.seen err.old).taken (E.seen err.new).taken (detail_line detail.now) }
-{
-    match written {
-        Ok(()) => match write_detail(err, detail) {
-            Ok(()) => DIFFERS,
-            Err(_) => NOT_WRITTEN,
-        },
-        Err(_) => NOT_WRITTEN,
-    }
 }

@@ -1,35 +1,24 @@
-ghost use Rattle.std.specs.Prelude.{◌≡◌, ◌≢◌, IfOk, IfSome, None, Some};
+ghost use Rattle.std.specs.Prelude.{◌≡◌, IfOk, IfSome};
 ghost use Rattle.std.specs.Arc.{arc_value};
 ghost use Rattle.interleave_core.specs.Finishing.{NoneOut};
 ghost use Rattle.interleave_core.specs.Over.{IsOverWith};
 ghost use Rattle.serial_model.specs.Actors.{IsWithoutActors};
-ghost use Rattle.serial_model.specs.Replay.{status};
 ghost use Rattle.shared_world.specs.Later.{IsLater as IsLaterWorld};
 ghost use Rattle.shared_world.specs.Opening.{IsOpening};
-ghost use Rattle.shared_world.specs.Stands.{Stands};
+ghost use Rattle.command_phases.specs.Lines.{end_line};
+ghost use Rattle.command_phases.specs.Outcome.{IsEnded};
+ghost use Rattle.command_phases.specs.SaysOutcome.{SaysOutcome};
+ghost use Rattle.command_phases.specs.Seen.{IsLater};
 ghost use Rattle.chocola.specs.Driven.{IsDrivenOn};
-ghost use Rattle.chocola.specs.EndWritten.{EndWritten};
-ghost use Rattle.chocola.specs.KeptAfter.{KeepsAfter};
-ghost use Rattle.chocola.specs.LineWritten.{SaysLine};
-ghost use Rattle.chocola.specs.Lines.{end_line, memory_line, scheduled_line};
-ghost use Rattle.chocola.specs.Outcome.{IsEnded, scheduled_status, scheduled_detail};
 ghost use Rattle.chocola.specs.Outside.{seen_before, seen_after};
 ghost use Rattle.chocola.specs.ProgramAnswers.{ProgramAnswers};
-ghost use Rattle.chocola.specs.SaysOutcome.{SaysOutcome};
-ghost use Rattle.chocola.specs.SaysReport.{SaysReport};
 ghost use Rattle.chocola.specs.ScheduleAnswers.{Reports, ScheduleAnswers};
-ghost use Rattle.chocola.specs.Seen.{IsLater};
-ghost use Rattle.chocola.specs.Status as exit;
-ghost use Rattle.chocola.specs.Unrun.{IsUnrun};
-ghost use Rattle.chocola.specs.WrittenAfter.{WritesAfter};
 
-use crate::lines::{end_line, say_memory};
-use crate::load_schedule::{Scheduled, ScheduledNo, load_schedule};
-use crate::outcome::{Detail, Outcome};
 use crate::outside::Outside;
-use crate::run_command::{Ran, keep, outcome_of, say_end};
-use crate::status::{NO_MEMORY, NOT_WRITTEN};
-use crate::without::{not_read, out_of_memory, refuse, without_program};
+use command_phases::{
+    Outcome, Part, Ran, Scheduled, end_line, end_run, load_schedule, out_of_memory, stopped_after,
+    without_pair,
+};
 use core_syntax::Program;
 use interleave_core::World;
 use schedule_drive::drive;
@@ -38,7 +27,7 @@ use serial_model::{End, Limits, Trace};
 use std::alloc::{AllocError, Global};
 use std::sync::Arc;
 use value_core::Text;
-use world_io::{Failed, Files, Sink, WriteNo, write_all};
+use world_io::{Files, Sink, write_all};
 
 /// Runs the program of that file within the limits, first by the lines of the schedule of that name and then to its end.
 /// It keeps the trace of the run under the name that is given for it, and reports what came of the lines.
@@ -57,28 +46,7 @@ pub fn schedule_file<'a, F: Files, K: Sink, E: Sink>(
 {
     match load_schedule(alloc, outside.files, file, schedule) {
         Ok(given) => run_given(alloc, given, limits, trace, outside),
-        Err(error) => without_schedule(alloc, error, file, schedule, outside.err),
-    }
-}
-
-/// The outcome where there is no run of this file by this schedule.
-fn without_schedule<E: Sink>(
-    alloc: Global,
-    error: ScheduledNo,
-    file: &Text,
-    schedule: &Text,
-    err: &mut E,
-) -> Outcome
-    ensures outcome { IsUnrun (scheduled_status error) (scheduled_detail error) result }
-    ensures says { SaysLine (scheduled_line file.now schedule.now error) (E.seen err.old) (E.seen err.new) }
-{
-    match error {
-        ScheduledNo::Source(error) => without_program(alloc, error, file, err),
-        ScheduledNo::NotYet => refuse(alloc, Detail::not_yet(), err),
-        ScheduledNo::ScheduleNotRead => not_read(alloc, schedule, err),
-        ScheduledNo::ScheduleRefused { kind, line } => {
-            refuse(alloc, Detail::refused_schedule(kind, line), err)
-        }
+        Err(error) => without_pair(alloc, error, Part::Schedule, file, schedule, outside.err),
     }
 }
 
@@ -150,7 +118,8 @@ fn run_world<'a, F: Files, K: Sink, E: Sink>(
 {
     let Outside { files, out, err } = outside;
     let Some(over) = drive_to_end(alloc, &mut world, program, lines) else {
-        return stopped(world, err);
+        world.stands();
+        return stopped_after(world.into_history(), err);
     };
     world.stands();
     let written = write_all(world.output(), out);
@@ -162,10 +131,10 @@ fn run_world<'a, F: Files, K: Sink, E: Sink>(
             history,
             end,
         },
+        report,
         line,
     };
-    let status = keep_and_report(alloc, written, &ran, &report, trace, files, err);
-    outcome_of(status, ran)
+    end_run(alloc, written, ran, trace, files, err)
 }
 
 /// How a run by a schedule came to its end: the report, the end, and its line.
@@ -199,88 +168,4 @@ fn end_with(alloc: Global, world: &mut World, report: Text) -> Option<Over>
     let end = world.finish(alloc).ok()?;
     let line = end_line(alloc, &end).ok()?;
     Some(Over { report, end, line })
-}
-
-/// The outcome of a run that stopped for want of memory, which it says.
-fn stopped<E: Sink>(world: World, err: &mut E) -> Outcome
-    ensures status { result.status ≡ exit.no_memory }
-    ensures detail { result.detail ≡ Detail.Nothing }
-    ensures history { result.history.items ≡ world.history }
-    ensures stands { Stands world }
-    ensures end { result.end ≡ None }
-    ensures says { SaysLine memory_line (E.seen err.old) (E.seen err.new) }
-{
-    world.stands();
-    say_memory(err);
-    Outcome {
-        status: NO_MEMORY,
-        history: world.into_history(),
-        end: None,
-        detail: Detail::Nothing,
-    }
-}
-
-/// Where the bytes of the run were written, keeps the trace, if one is asked for. Then it writes the report, and behind it the
-/// line of the end where nothing failed to be written. It answers the status that this leaves. Where there is no memory for
-/// the trace it says so in place of the report.
-fn keep_and_report<F: Files, E: Sink>(
-    alloc: Global,
-    written: Result<(), Failed>,
-    ran: &Ran,
-    report: &Text,
-    trace: &Option<Text>,
-    files: &mut F,
-    err: &mut E,
-) -> u8
-    ensures ends { EndWritten written ran.now.trace trace.now (F.seen files.old) (F.seen files.new) (E.seen err.old) (E.seen err.new) result }
-    ensures reports { IsEnded result → SaysReport report.now result (Some ran.now.trace.end) (E.seen err.old) (E.seen err.new) }
-    ensures says { (IsEnded result → ⊥) → SaysOutcome result Detail.Nothing (Some ran.now.trace.end) (E.seen err.old) (E.seen err.new) }
-{
-    let end = &ran.trace.end;
-    let line = ran.line.as_slice();
-    match keep_after(alloc, written, &ran.trace, trace, files) {
-        Ok(()) => report_and_say(Ok(()), report.items(), end, line, err),
-        Err(WriteNo::Failed) => report_and_say(Err(Failed), report.items(), end, line, err),
-        Err(WriteNo::Memory) => {
-            say_memory(err);
-            NO_MEMORY
-        }
-    }
-}
-
-/// Keeps the trace under its name, where one is given and the bytes before it were written.
-fn keep_after<F: Files>(
-    alloc: Global,
-    written: Result<(), Failed>,
-    ran: &Trace,
-    trace: &Option<Text>,
-    files: &mut F,
-) -> Result<(), WriteNo>
-    ensures { KeepsAfter written ran.now trace.now (F.seen files.old) (F.seen files.new) result }
-{
-    match written {
-        Ok(()) => keep(alloc, ran, trace, files),
-        Err(_) => Err(WriteNo::Failed),
-    }
-}
-
-/// Writes the report, and behind it the line of the end where what came before it was written too. It answers the status of the
-/// end, or 7 where something was not written.
-fn report_and_say<E: Sink>(
-    written: Result<(), Failed>,
-    report: &[u8],
-    end: &End,
-    line: &[u8],
-    err: &mut E,
-) -> u8
-    requires { line.now ≡ end_line end.now }
-    ensures status { IsEnded result }
-    ensures of_end { result ≢ exit.not_written → status end.now ≡ result }
-    ensures after { WritesAfter written (E.seen err.old) (E.seen err.new) result }
-    ensures says { SaysReport report.now result (Some end.now) (E.seen err.old) (E.seen err.new) }
-{
-    match write_all(report, err) {
-        Ok(()) => say_end(written, end, line, err),
-        Err(_) => NOT_WRITTEN,
-    }
 }

@@ -1,17 +1,15 @@
 ghost use Rattle.std.specs.Prelude.{map};
 ghost use Rattle.std.specs.String.{string_bytes};
 ghost use Rattle.chocola.specs.Answers.{Answers};
-ghost use Rattle.chocola.specs.Seen.{seen};
+ghost use Rattle.command_phases.specs.Seen.{seen};
 
 use crate::check_command::check_file;
-use crate::lines::say_usage;
-use crate::outcome::{Detail, Outcome};
+use crate::make_command::make_program;
 use crate::outside::Outside;
 use crate::replay_command::replay_file;
 use crate::run_command::run_file;
 use crate::schedule_command::schedule_file;
-use crate::status::USAGE;
-use crate::without::out_of_memory;
+use command_phases::{Detail, Outcome, USAGE, out_of_memory, say_usage};
 use command_words::{Command, WordsNo, read_words};
 use std::alloc::Global;
 use world_io::{Files, Sink};
@@ -62,6 +60,7 @@ pub fn chocola<F: Files, K: Sink + Send, E: Sink>(
         ) => schedule_file(alloc, &file, &schedule, limits, &trace, outside),
         Ok(Command::Replay { file, trace }) => { replay_file(alloc, &file, &trace, outside) }
         Ok(Command::Check { file }) => check_file(alloc, &file, outside),
+        Ok(Command::Make { number, size }) => make_program(alloc, number, size, outside),
         Err(WordsNo::Usage) => {
             say_usage(outside.err);
             Outcome::without_run(alloc, USAGE, Detail::Nothing)

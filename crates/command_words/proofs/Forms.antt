@@ -13,7 +13,7 @@ use Rattle.clap.specs.Faults.{check_fault, default_fault, defaults_fault, given_
 use Rattle.clap.specs.declared.error.ErrorKind.TheVariants.{MissingRequiredArgument}
 use Rattle.std.proofs.lemmas.Option.{none-some}
 use Rattle.command_words.specs.Reading.{Word, Form, is_given}
-use Rattle.command_words.specs.Said.{run_form, schedule_form, replay_form, check_form}
+use Rattle.command_words.specs.Said.{run_form, schedule_form, replay_form, check_form, make_form}
 use Rattle.command_words.proofs.Rules.{built_form, option_rule, place_rule, places_from, row_of, rows_of, rules_of}
 use Rattle.command_words.proofs.Turns.{Known}
 
@@ -74,6 +74,13 @@ replay_sound = record {
 
 pub check_sound : IsSound check_form
 check_sound = record { places = (refl, omega arith, (None, Some 1, true, refl), refl); options = tt; named = refl }
+
+pub make_sound : IsSound make_form
+make_sound = record {
+  places = (refl, omega arith, (None, Some 1, true, refl), (refl, omega arith, (None, Some 2, true, refl), refl));
+  options = tt;
+  named = refl;
+}
 
 pub found_known : (c : List Rule) (p : Word → Bool) (os : List Word) (name : Word) → Each (Known c) os → find p os ≡ Some name → Known c name
 found_known c p [] name known found = absurd (none-some _ found)

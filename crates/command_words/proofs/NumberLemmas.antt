@@ -11,7 +11,7 @@ use Rattle.std.proofs.lemmas.Bool.Decides.{nat_tests}
 use Rattle.std.proofs.Common.{inl, inr, subst}
 use Rattle.std.specs.Prelude.{option_and_then, codes}
 use Rattle.std.proofs.lemmas.Bool.{and_right, cases_lt}
-use Rattle.command_words.specs.Said.{budget_of, limits_of, number_or}
+use Rattle.command_words.specs.Said.{budget_of, limits_of, number_between, number_or, within}
 use Rattle.serial_model.specs.Limits.{default_budget}
 use Rattle.command_words.specs.Number.{is_number, number_of, has_no_needless_zero}
 
@@ -70,3 +70,13 @@ limits_beyond given fuel fuel_default units_default same_fuel same_units known a
     sym (ap (option_and_then (λ f. option_and_then (budget_of f) (number_or default_budget.units (given (codes "units")))))
     (ap (λ d. number_or d (given (codes "fuel"))) (sym same_fuel) ∙ known)
     ∙ beyond_units fuel _ units)
+
+-- nor is it in a range of 32 bits
+beyond_within : (least most : ℕ) (number : Option ℕ) → most < 2 ^ 32 → IfSome number (λ n. 2 ^ 64 ≤ n) → option_and_then (within least most) number ≡ None
+beyond_within least most None small above = refl
+beyond_within least most (Some n) small above =
+    let over : nat_le n most ≡ false = grind (arith, nat_tests) in
+    rw (and_right (nat_le least n) (nat_le n most) over) refl
+
+pub beyond_between : (least most : ℕ) (text : List ℕ) → most < 2 ^ 32 → IfSome (number_of text) (λ n. 2 ^ 64 ≤ n) → number_between least most (Some text) ≡ None
+beyond_between least most text small above = beyond_within least most (number_of text) small above

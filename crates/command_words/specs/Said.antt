@@ -6,7 +6,7 @@ use Rattle.serial_model.specs.Limits.{Budget, default_budget}
 use Rattle.command_words.specs.Number.{number_of}
 use Rattle.command_words.specs.Reading.{Word, Form, given_of, value_of}
 use Rattle.command_words.specs.declared.command.Command.{Command}
-use Rattle.command_words.specs.declared.command.Command.TheVariants.{Run, Schedule, Replay, Check}
+use Rattle.command_words.specs.declared.command.Command.TheVariants.{Run, Schedule, Replay, Check, Make}
 use Rattle.command_words.specs.declared.words_no.WordsNo.{WordsNo}
 use Rattle.command_words.specs.declared.words_no.WordsNo.TheVariants.{Usage, Memory}
 
@@ -29,6 +29,10 @@ replay_form = record { places = codes "file" ∷ codes "trace" ∷ []; options =
 -- `check FILE`
 abbrev pub check_form : Form
 check_form = record { places = codes "file" ∷ []; options = [] }
+
+-- `make NUMBER SIZE`
+abbrev pub make_form : Form
+make_form = record { places = codes "number" ∷ codes "size" ∷ []; options = [] }
 
 -- the number that the value spells, and the default where there is no value
 abbrev pub number_or : ℕ → Option Word → Option ℕ
@@ -69,6 +73,21 @@ replay_of given = option_and_then (λ file. option_map (Replay file) (given (cod
 abbrev pub check_of : (Word → Option Word) → Option Command
 check_of given = option_map Check (given (codes "file"))
 
+-- the number, if it is from `least` to `most`
+abbrev pub within : ℕ → ℕ → ℕ → Option ℕ
+within least most number = if nat_le least number && nat_le number most then Some number else None
+
+-- the number from `least` to `most` that the value spells
+abbrev pub number_between : ℕ → ℕ → Option Word → Option ℕ
+number_between least most value = option_and_then (λ text. option_and_then (within least most) (number_of text)) value
+
+-- the made program that is said by what its places are given: its number is from 0 to 2,147,483,647, and its size from 1 to
+-- 10,000
+abbrev pub make_of : (Word → Option Word) → Option Command
+make_of given =
+    option_and_then (λ number. option_map (Make number) (number_between 1 10000 (given (codes "size"))))
+    (number_between 0 2147483647 (given (codes "number")))
+
 -- the command that the words behind its name say
 abbrev pub said_by : Form → ((Word → Option Word) → Option Command) → List Word → Option Command
 said_by form command words = option_and_then (λ given. command (value_of given)) (given_of form words)
@@ -81,6 +100,7 @@ command_of (name ∷ words) =
     else if bytes_eq (codes "schedule") name then said_by schedule_form schedule_of words
     else if bytes_eq (codes "replay") name then said_by replay_form replay_of words
     else if bytes_eq (codes "check") name then said_by check_form check_of words
+    else if bytes_eq (codes "make") name then said_by make_form make_of words
     else None
 
 -- the result is the command that is said, or `Usage` where none is, or tells of want of memory

@@ -27,4 +27,9 @@ pub enum Command {
     Check {
         file: Text,
     },
+    /// The text of the program that is made from these numbers: `number` from 0 to 2,147,483,647, and `size` from 1 to 10,000.
+    Make {
+        number: u32,
+        size: u32,
+    },
 }

@@ -2,7 +2,7 @@ ghost use Rattle.std.specs.Prelude.{◌≡◌, IfOk, codes, false, map};
 ghost use Rattle.clap.specs.Words.{app_of, rule_of};
 ghost use Rattle.clap.specs.declared.builder.Command.TheViews.{out-Command};
 ghost use Rattle.command_words.specs.Parser.{told, told_command, told_option, told_place, with_rules};
-ghost use Rattle.command_words.specs.Said.{check_form, replay_form, run_form, run_options, schedule_form};
+ghost use Rattle.command_words.specs.Said.{check_form, make_form, replay_form, run_form, run_options, schedule_form};
 
 use clap::{Arg, Command};
 use std::alloc::{AllocError, Global};
@@ -19,7 +19,8 @@ pub(crate) fn parser<'a>(alloc: Global) -> Result<Command<'a>, AllocError>
         .subcommand(run(alloc)?)?
         .subcommand(schedule(alloc)?)?
         .subcommand(replay(alloc)?)?
-        .subcommand(check(alloc)?)
+        .subcommand(check(alloc)?)?
+        .subcommand(make(alloc)?)
 }
 
 fn run<'a>(alloc: Global) -> Result<Command<'a>, AllocError>
@@ -54,6 +55,15 @@ fn check<'a>(alloc: Global) -> Result<Command<'a>, AllocError>
     ensures local { IfOk result (λ command. (out-Command command).has_globals ≡ false) }
 {
     Command::new(alloc, "check").arg(place(alloc, "file"))
+}
+
+fn make<'a>(alloc: Global) -> Result<Command<'a>, AllocError>
+    ensures told { IfOk result (λ command. app_of command ≡ told_command (codes "make") make_form) }
+    ensures local { IfOk result (λ command. (out-Command command).has_globals ≡ false) }
+{
+    Command::new(alloc, "make")
+        .arg(place(alloc, "number"))?
+        .arg(place(alloc, "size"))
 }
 
 /// The command with the options of what is run.

@@ -1,7 +1,7 @@
 ghost use Rattle.std.specs.Prelude.{◌≡◌, ◌≤◌, ◌^◌, Some, IfOk, IfSome, IfNone};
 ghost use Rattle.clap.specs.Words.{first_value, found_of, subcommand_rows_of};
 ghost use Rattle.command_words.specs.Parser.{command_named, found_command};
-ghost use Rattle.command_words.specs.Said.{Reads, check_of, limits_of, number_or, replay_of, run_of, schedule_of};
+ghost use Rattle.command_words.specs.Said.{Reads, check_of, limits_of, make_of, number_between, number_or, replay_of, run_of, schedule_of, within};
 
 use crate::command::Command;
 use crate::number::number;
@@ -30,6 +30,7 @@ fn command_named(alloc: Global, name: &str, given: &ArgMatches<'_>) -> Result<Co
         "schedule" => schedule(alloc, given),
         "replay" => replay(alloc, given),
         "check" => check(alloc, given),
+        "make" => make(given),
         _ => Err(WordsNo::Usage),
     }
 }
@@ -81,6 +82,15 @@ fn check(alloc: Global, given: &ArgMatches<'_>) -> Result<Command, WordsNo>
     Ok(Command::Check { file })
 }
 
+/// The made program that these values say.
+fn make(given: &ArgMatches<'_>) -> Result<Command, WordsNo>
+    ensures { Reads (make_of (first_value (found_of given.now))) result }
+{
+    let number = number_between(given, "number", 0, 2_147_483_647).ok_or(WordsNo::Usage)?;
+    let size = number_between(given, "size", 1, 10_000).ok_or(WordsNo::Usage)?;
+    Ok(Command::Make { number, size })
+}
+
 /// The value of that name, if it has one.
 fn text(alloc: Global, given: &ArgMatches<'_>, name: &str) -> Result<Option<Text>, AllocError>
     ensures { IfOk result (λ text. text ≡ first_value (found_of given.now) name.now) }
@@ -110,5 +120,37 @@ fn number_or(given: &ArgMatches<'_>, name: &str, default: u64) -> Option<u64>
     match given.get_str(name) {
         Some(text) => number(text),
         None => Some(default),
+    }
+}
+
+/// The number from `least` to `most` that the value of that name spells. `None` where it has no value, and where the value
+/// spells no such number.
+fn number_between(given: &ArgMatches<'_>, name: &str, least: u32, most: u32) -> Option<u32>
+    ensures { result ≡ number_between least most (first_value (found_of given.now) name.now) }
+{
+    match given.get_str(name) {
+        Some(text) => number_within(text, least, most),
+        None => None,
+    }
+}
+
+/// The number from `least` to `most` that the text spells. `None` where it spells no such number.
+fn number_within(text: &str, least: u32, most: u32) -> Option<u32>
+    ensures { result ≡ number_between least most (Some text.now) }
+{
+    match number(text) {
+        Some(number) => within(number, least, most),
+        None => None,
+    }
+}
+
+/// The number, if it is from `least` to `most`.
+fn within(number: u64, least: u32, most: u32) -> Option<u32>
+    ensures { result ≡ within least most number }
+{
+    if u64::from(least) <= number && number <= u64::from(most) {
+        u32::try_from(number).ok()
+    } else {
+        None
     }
 }

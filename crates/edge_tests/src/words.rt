@@ -36,6 +36,7 @@ fn line_of_command(alloc: Global, command: &Command) -> Result<String, AllocErro
         } => line_of_schedule(alloc, file, schedule, *limits, trace),
         Command::Replay { file, trace } => line_of_replay(alloc, file, trace),
         Command::Check { file } => line_of_check(alloc, file),
+        Command::Make { number, size } => format!(in alloc; "make {number} {size}"),
     }
 }
 
@@ -137,6 +138,8 @@ fn reads(rt: HostRuntime) -> Result<(), Fail> {
         ("replay a t", "replay a t"),
         ("replay t replay", "replay t replay"),
         ("check check", "check check"),
+        ("make 0 1", "make 0 1"),
+        ("make 2147483647 10000", "make 2147483647 10000"),
     ];
     for (words, line) in rows {
         assert!(rt; says(rt.alloc(), words, line)?, "{words}");
@@ -157,11 +160,11 @@ const VALUES: &str =
 
 /// Too few words, or too many.
 const COUNTS: &str =
-    "run\nrun --fuel 5\nrun a b\nrun a --fuel 5 6\nreplay a\nreplay a t u\ncheck\ncheck a b\nschedule\nschedule a\nschedule a s t\nschedule a --trace s";
+    "run\nrun --fuel 5\nrun a b\nrun a --fuel 5 6\nreplay a\nreplay a t u\ncheck\ncheck a b\nschedule\nschedule a\nschedule a s t\nschedule a --trace s\nmake\nmake 1\nmake 1 1 1\nmake 1 1 --fuel 5";
 
 /// No number, or one out of its range.
 const NUMBERS: &str =
-    "run a --fuel 05\nrun a --fuel 00\nrun a --fuel +5\nrun a --fuel 5x\nrun a --fuel 1_000\nrun a --fuel 0\nrun a --units 0\nrun a --fuel 10000001\nrun a --units 1000001\nrun a --units 4294967297\nrun a --fuel 18446744073709551617\nrun a --fuel 99999999999999999999\nrun a --fuel 100000000000000000000";
+    "run a --fuel 05\nrun a --fuel 00\nrun a --fuel +5\nrun a --fuel 5x\nrun a --fuel 1_000\nrun a --fuel 0\nrun a --units 0\nrun a --fuel 10000001\nrun a --units 1000001\nrun a --units 4294967297\nrun a --fuel 18446744073709551617\nrun a --fuel 99999999999999999999\nrun a --fuel 100000000000000000000\nmake 1 0\nmake 1 10001\nmake 2147483648 1\nmake 4294967296 1\nmake 18446744073709551616 1\nmake 01 1\nmake 1 1x";
 
 /// Whether none of these lines is a command.
 fn are_refused(alloc: Global, lines: &str) -> Result<bool, AllocError> {

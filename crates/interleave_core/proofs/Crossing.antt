@@ -1,6 +1,7 @@
 -- The world may be moved into a thread.
 use denote.Param.Send.{IsSend}
 use Rattle.std.proofs.MapsCrossing as maps
+use Rattle.actor_mails.proofs.Crossing.{mails_send}
 use Rattle.core_syntax.proofs.program.Program.TheSendSync as program
 use Rattle.eval_step.proofs.Crossing.{machine_send}
 use Rattle.interleave_core.specs.contracts.world.World as world
@@ -11,7 +12,6 @@ use Rattle.ref_store.specs.contracts.writes.Writes as writes
 use Rattle.serial_model.proofs.Crossing.{fields}
 use Rattle.serial_model.proofs.history.History.TheSendSync as history
 use Rattle.serial_model.proofs.limits.Limits.TheSendSync as limits
-use Rattle.serial_model.specs.contracts.actor_state.ActorState as actor_state
 use Rattle.serial_model.specs.contracts.effect.Effect as effect
 use Rattle.serial_model.specs.contracts.effect.What as what
 use Rattle.serial_model.specs.contracts.end.End as end
@@ -28,6 +28,7 @@ use Rattle.unit_table.specs.contracts.piece.Actor as actor
 use Rattle.unit_table.specs.contracts.piece.Piece as piece
 use Rattle.unit_table.specs.contracts.places.Places as places
 use Rattle.unit_table.specs.contracts.record.Record as record_row
+use Rattle.unit_table.specs.contracts.unit.Becoming as becoming
 use Rattle.unit_table.specs.contracts.unit.Unit as unit
 use Rattle.unit_table.specs.contracts.units.Units as units
 use Rattle.value_core.proofs.Crossing.{name_send, value_send, values_send}
@@ -39,8 +40,11 @@ use Rattle.world_steps.specs.contracts.kept.Kept as kept
 mark_send : IsSend mark.the_row
 mark_send = search (name_send, value_send, fields) depth 60 fits 20000
 
+becoming_send : IsSend becoming.the_row
+becoming_send = search (values_send, fields) depth 60 fits 20000
+
 unit_send : IsSend unit.the_row
-unit_send = search (name_send, machine_send, mark_send, fields) depth 60 fits 20000
+unit_send = search (name_send, becoming_send, machine_send, mark_send, fields) depth 60 fits 20000
 
 actor_send : IsSend actor.the_row
 actor_send = search (values_send, mark_send, fields) depth 60 fits 20000
@@ -100,7 +104,7 @@ end_send : IsSend end.the_row
 end_send = search (name_send, fields) depth 60 fits 20000
 
 kept_send : IsSend kept.the_row
-kept_send = search (name_send, units_send, store_send, tree_send, owners_send, end_send, program.the_send, program.the_sync, history.the_send, limits.the_send, maps.crosses, fields) depth 60 fits 20000
+kept_send = search (name_send, units_send, store_send, mails_send, tree_send, owners_send, end_send, program.the_send, program.the_sync, history.the_send, limits.the_send, maps.crosses, fields) depth 60 fits 20000
 
 pub world_send : IsSend world.the_row
 world_send = search (kept_send, end_send, fields) depth 60 fits 20000

@@ -1,5 +1,5 @@
 -- How one thread ends a run.
-use Rattle.std.proofs.Common.{◌≡◌, ◌∙◌, Bool, true, false, cond, List, [], ◌∷◌, ◌++◌, append-nil, append_assoc, refl, sym, ap, ap₂, subst}
+use Rattle.std.proofs.Common.{◌≡◌, ◌∙◌, Bool, true, false, cond, [], ◌++◌, append-nil, append_assoc, refl, sym, ap, ap₂, subst}
 use Rattle.std.specs.declared.cmp.Ordering.{Ordering}
 use Rattle.std.specs.declared.cmp.Ordering.TheVariants.{Equal, Greater, Less}
 use Rattle.std.specs.Option.{option_and_then, option_map}
@@ -8,7 +8,7 @@ use Rattle.std.specs.Prelude.{IsSome, None, Option, Some, not, ◌↔◌, if◌t
 use Rattle.attempt_steps.proofs.Aborting.{trying-unfinished}
 use Rattle.interleave_core.proofs.Finished.{open-not-over, over-set}
 use Rattle.interleave_core.proofs.Lending.{pieces-stand}
-use Rattle.interleave_core.specs.Finishing.{AreEnding, GoesOn, IsEnded, IsFinished, IsNextOr, LentAfter, NoneOut, NoneTried, is_finished}
+use Rattle.interleave_core.specs.Finishing.{AreEnding, GoesOn, IsEnded, IsFinished, IsNextOr, LentAfter, NoneOut, NoneTried, is_at_rest, says_at_rest}
 use Rattle.interleave_core.specs.Giving as giving
 use Rattle.interleave_core.specs.Giving.{IsOpenUnit, PieceGave}
 use Rattle.world_steps.specs.Kept.{IsSameBut}
@@ -16,20 +16,27 @@ use Rattle.interleave_core.specs.Over.{IsOverWith}
 use Rattle.attempt_steps.specs.Tasks.{IsWanting}
 use Rattle.attempt_steps.specs.Undoing.{HasAborted, HasAttempt, HasUndone}
 use Rattle.serial_model.specs.declared.end.End.{End}
-use Rattle.shared_world.proofs.Gone.{SeenAs, aborted, seen-as}
+use Rattle.serial_model.specs.Step.{next_of}
+use Rattle.shared_world.proofs.Gone.{aborted, seen-as}
 use Rattle.shared_world.proofs.Kept.{task-gave, unit-gave}
-use Rattle.shared_world.proofs.Later.{gave-task-later, gave-unit-later}
+use Rattle.shared_world.proofs.Later.{gave-actor-later, gave-task-later, gave-unit-later}
 use Rattle.shared_world.proofs.Live.{state-there, unit-piece}
+use Rattle.shared_world.proofs.MarkedTasks.{marked-task, undone-marked}
+use Rattle.shared_world.proofs.MarkedTurns.{marked-turn}
+use Rattle.shared_world.proofs.MarkedUnits.{marked-unit}
+use Rattle.shared_world.proofs.Marks.{marked-same, pieces-marks}
+use Rattle.shared_world.proofs.Turns.{actor-gave}
 use Rattle.shared_world.specs.declared.given.Given.{Given}
 use Rattle.shared_world.specs.declared.given.Given.TheVariants as given
 use Rattle.shared_world.specs.Later.{IsLater}
+use Rattle.shared_world.specs.Marks.{HasMarks}
 use Rattle.shared_world.specs.rows.Attempts.{Aborts}
 use Rattle.shared_world.specs.rows.Pieces.{ClaimsEnd, but_gone}
 use Rattle.shared_world.specs.Seen.{AttemptSeen}
-use Rattle.shared_world.specs.Shared.{Shared, claimed, finished_by, is_going, state_at, unit_state, work_in}
+use Rattle.shared_world.specs.Shared.{Shared, claimed, finished_by, is_going, unit_state, work_in}
 use Rattle.shared_world.specs.Stands.{Stands}
 use Rattle.task_fork_join.specs.Attempt.{Attempt}
-use Rattle.unit_table.specs.Board.{Board, ComesAfter, IsMarked, IsNextAfter, IsUnlent, LentAreReady, but_for, is_unfinished, lent_to, mark_at, marks_ready, piece_at, unit_at}
+use Rattle.unit_table.specs.Board.{Board, IsMarked, IsNextAfter, IsUnlent, LentAreReady, but_for, is_unfinished, lent_to, mark_at, marks_ready, piece_at, unit_at}
 use Rattle.unit_table.specs.declared.mark.Mark.{Mark}
 use Rattle.unit_table.specs.declared.mark.Mark.TheVariants as mark
 use Rattle.unit_table.specs.declared.mark.Work.{Work}
@@ -51,7 +58,7 @@ later-itself : (s : Shared) → IsLater s s
 later-itself s = record { setup = refl; more = []; history = sym (append-nil s.history) }
 
 pub goes-itself : (s : Shared) → Stands s → GoesOn s s
-goes-itself s st = record { stands = st; later = later-itself s; claims = λ none. none }
+goes-itself s st = record { stands = st; marks = λ marks. marks; later = later-itself s; claims = λ none. none }
 
 later-then : (first mid last : Shared) → IsLater first mid → IsLater mid last → IsLater first last
 later-then first mid last a b = record {
@@ -61,7 +68,7 @@ later-then first mid last a b = record {
 }
 
 pub goes-then : (first mid last : Shared) → GoesOn first mid → GoesOn mid last → GoesOn first last
-goes-then first mid last a b = record { stands = b.stands; later = later-then first mid last a.later b.later; claims = λ none. b.claims (a.claims none) }
+goes-then first mid last a b = record { stands = b.stands; marks = λ marks. b.marks (a.marks marks); later = later-then first mid last a.later b.later; claims = λ none. b.claims (a.claims none) }
 
 -- once the run has ended no claim is out
 pub out-none : (s : Shared) (t : Ticket) → (is_going s.end ≡ true → claimed s t ≡ None) → claimed s t ≡ None
@@ -78,31 +85,41 @@ ends-none gone old new ends none t = out-none new t (λ going. ends going t ∙ 
 pub same-goes : (old new : Shared) → Stands old → IsSameBut old new → GoesOn old new
 same-goes old new st is = record {
   stands = pieces-stand old new st is.pieces is.rest;
+  marks = pieces-marks old new is.pieces is.rest;
   later = record { setup = ap (λ (s : Shared). s.setup) is.rest; more = []; history = ap (λ (s : Shared). s.history) is.rest ∙ sym (append-nil old.history) };
   claims = λ none t. ap₂ (λ (end : Option End) found. if is_going end then found else None) (ap (λ (s : Shared). s.end) is.rest) (is.claims.to t) ∙ none t;
 }
 
 -- ---- a piece that takes a step
 -- a unit that is not finished
-pub not-finished : (b : Board) (name : Name) → is_finished b name ≡ false → IsOpenUnit b name
-not-finished b name goes x there = on x.mark (sym (ap (λ found. holds_at says_finished (option_map mark_in found)) (unit-piece b name x there)) ∙ goes)
+pub not-finished : (b : Board) (name : Name) → is_at_rest b name ≡ false → IsOpenUnit b name
+not-finished b name goes x there = on x.mark (sym (ap (λ found. holds_at says_at_rest (option_map mark_in found)) (unit-piece b name x there)) ∙ goes)
   where
-    on : (m : Mark) → says_finished m ≡ false → finished_by m ≡ None
+    on : (m : Mark) → says_at_rest m ≡ false → finished_by m ≡ None
     on (mark.Ready w) e = refl
     on (mark.Waiting w) e = refl
     on mark.Resting e = refl
     on (mark.Finished v) e = cc
     on mark.Dropped e = refl
 
-pub gave-goes : (old new : Shared) (name : Name) (found : Given) → Stands old → old.end ≡ None → is_finished old.board name ≡ false → PieceGave old name found new → GoesOn old new
+pub gave-goes : (old new : Shared) (name : Name) (found : Given) → Stands old → old.end ≡ None → is_at_rest old.board name ≡ false → PieceGave old name found new → GoesOn old new
 gave-goes old new name found st going unfinished (giving.unit g) = record {
   stands = unit-gave old st going name (not-finished old.board name unfinished) found new g;
+  marks = λ marks on_going. marked-unit old st (marks (ap is_going going)) name g.unit
+      (record { going = going; there = state-there old.board name g.unit g.there; unfinished = not-finished old.board name unfinished g.unit g.there }) g.there found new on_going (next_of old.setup (unit_state g.unit)) refl g.gives;
   later = gave-unit-later old name found new g;
   claims = ends-none _ old new g.claims;
 }
 gave-goes old new name found st going unfinished (giving.task g) = record {
   stands = task-gave old st going name found new g;
+  marks = λ marks on_going. marked-task old st (marks (ap is_going going)) going name found new on_going g;
   later = gave-task-later old name found new g;
+  claims = ends-none _ old new g.claims;
+}
+gave-goes old new name found st going unfinished (giving.actor g) = record {
+  stands = actor-gave old st going name found new g;
+  marks = λ marks on_going. marked-turn old st (marks (ap is_going going)) (ap is_going going) name found new g on_going;
+  later = gave-actor-later old name found new g;
   claims = ends-none _ old new g.claims;
 }
 
@@ -110,6 +127,7 @@ gave-goes old new name found st going unfinished (giving.task g) = record {
 pub wanting-goes : (old new : Shared) (name : Name) → old.end ≡ None → IsWanting old name new → GoesOn old new
 wanting-goes old new name going is = record {
   stands = is.stands;
+  marks = is.marks;
   later = record { setup = ap (λ (s : Shared). s.setup) is.rest; more = []; history = ap (λ (s : Shared). s.history) is.rest ∙ sym (append-nil old.history) };
   claims = λ none t. out-none new t (λ on_going. ap (λ g. if g then lent_to new.board t else None) on_going ∙ still-none none t);
 }
@@ -146,6 +164,7 @@ module _ (old new : Shared) (u : Name) (st : Stands old) (going : old.end ≡ No
   pub undone-goes : GoesOn old new
   undone-goes = record {
     stands = aborted old st (ap is_going going) u has.unit has.tree has.there has.attempt [] 0 (given.Aborted u [] 0) new row;
+    marks = λ marks on_going. undone-marked old (marks (ap is_going going)) u has.unit has.tree has.there has.attempt [] 0 (given.Aborted u [] 0) new row;
     later = record { setup = ap (λ (s : Shared). s.setup) row.others; more = []; history = ap (λ (s : Shared). s.history) row.others ∙ sym (append-nil old.history) };
     claims = ends-none _ old new (aborts.claims has.tree has.attempt);
   }
@@ -215,7 +234,12 @@ module _ (s : Shared) (st : Stands s) where
       machines = st.machines;
       attempts = λ going u tree there. cc;
       numbers = st.numbers;
+      definite = st.definite;
     }
+
+    -- and so are their marks
+    pub cleared-marks : HasMarks s → HasMarks (record s { attempts = [] })
+    cleared-marks marks going = marked-same s (record s { attempts = [] }) (record { setup = refl; attempts = λ v. sym (going-none going v); owners = refl; pieces = λ q. refl; mails = λ a. refl }) (marks going)
 
 pub cleared-finished : (s : Shared) (end : End) → IsOverWith s end → NoneOut s → IsFinished (record s { attempts = [] }) end
 cleared-finished s end over none = record {
@@ -317,6 +341,7 @@ ending-then first old new name are ended = record {
 pub ending-goes : (s : Shared) (b : Board) → Stands s → AreEnding s.board b → GoesOn s (record s { board = b })
 ending-goes s b st are = record {
   stands = pieces-stand s (record s { board = b }) st are.pieces refl;
+  marks = pieces-marks s (record s { board = b }) are.pieces refl;
   later = record { setup = refl; more = []; history = sym (append-nil s.history) };
   claims = λ none t. on t (is_going s.end) (none t);
 }

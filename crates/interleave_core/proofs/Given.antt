@@ -1,7 +1,7 @@
 -- What pieces come to.
-use Rattle.std.proofs.Common.{◌≡◌, ◌∙◌, ◌<◌, false, length, true, refl, sym, ap, subst}
-use Rattle.std.specs.Option.{IsSome, option_and_then, option_map}
-use Rattle.std.specs.Prelude.{Err, IfSome, None, Ok, Option, Result, Some, is_some}
+use Rattle.std.proofs.Common.{◌≡◌, ◌∙◌, false, refl, sym, ap, subst}
+use Rattle.std.specs.Option.{IsSome, option_and_then}
+use Rattle.std.specs.Prelude.{Err, IfSome, None, Ok, Option, Result, Some}
 use Rattle.std.specs.declared.alloc.AllocError.{AllocError}
 use Rattle.eval_step.specs.Evaluation.{Evaluation}
 use Rattle.attempt_steps.proofs.Wanting.{same-wanting}
@@ -10,26 +10,23 @@ use Rattle.interleave_core.specs.Giving.{GivesTo, IsMovedOn, IsOpenUnit}
 use Rattle.interleave_core.specs.Giving as gives
 use Rattle.world_steps.specs.Kept.{IsUnitOf}
 use Rattle.world_steps.specs.Rows.{Comes, IsBodyThere}
+use Rattle.world_steps.specs.Turning.{TurnComes}
 use Rattle.serial_model.proofs.evaluation.Carries.{ask-is-there}
 use Rattle.serial_model.specs.declared.halt.Halt.{Halt}
 use Rattle.serial_model.specs.declared.halt.Halt.TheVariants as halt
 use Rattle.serial_model.specs.declared.request.Request.{Request}
 use Rattle.serial_model.specs.declared.request.Request.TheVariants as request
 use Rattle.serial_model.specs.Carried.{IsThere}
-use Rattle.serial_model.specs.State.{Setup}
 use Rattle.serial_model.specs.Step.{next_of}
 use Rattle.shared_world.proofs.Live.{unit-piece}
 use Rattle.shared_world.specs.declared.given.Given.{Given}
 use Rattle.shared_world.specs.Returned.{halt_of}
 use Rattle.shared_world.specs.rows.Units.{UnitGives}
-use Rattle.shared_world.specs.Shared.{Shared, kept_machine, machine_in, tree_with, unit_state}
+use Rattle.shared_world.specs.Shared.{Shared, kept_machine, machine_in, unit_state}
 use Rattle.shared_world.specs.Stands.{IsMachine, Stands}
-use Rattle.task_fork_join.specs.Attempt.{Attempt, end_at, machine_of, next_made_at}
-use Rattle.task_fork_join.specs.declared.task.Task.{Task}
-use Rattle.task_fork_join.specs.declared.task_end.TaskEnd.{TaskEnd}
-use Rattle.unit_table.specs.Board.{piece_at, unit_at}
+use Rattle.unit_table.specs.Board.{unit_at}
 use Rattle.unit_table.specs.declared.unit.Unit.{Unit}
-use Rattle.value_core.specs.Named.{Name, made_by, named}
+use Rattle.value_core.specs.Named.{Name}
 use Rattle.value_core.specs.Place.{Spot}
 
 -- ---- a unit
@@ -98,3 +95,8 @@ unit-gave-so old new st name moved (Ok found) some is r = gives.unit (record {
   where
     at : IsThereUnit old name
     at = there-unit old name some
+
+-- what an actor comes to
+pub actor-gave-so : (old new : Shared) (st : Stands old) (name : Name) (result : Result Given AllocError) → TurnComes old name new result → GivesTo old name new result
+actor-gave-so old new st name (Err e) r = same-wanting old new name st r
+actor-gave-so old new st name (Ok found) r = gives.actor r

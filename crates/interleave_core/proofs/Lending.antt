@@ -6,6 +6,7 @@ use Rattle.core_syntax.specs.Table.{Table}
 use Rattle.interleave_core.specs.Claims.{IsAbandoned}
 use Rattle.piece_table.specs.Table.{is_free}
 use Rattle.serial_model.specs.Standing.{Start}
+use Rattle.shared_world.proofs.ActorPieces.{same-pieces-actors}
 use Rattle.shared_world.proofs.Standing.{same-states}
 use Rattle.shared_world.proofs.States.{machines-same, same-pieces}
 use Rattle.shared_world.specs.Shared.{Shared, claimed, is_going, kept_machine, machine_in, ready, tree_with}
@@ -65,7 +66,7 @@ some-same : (x y : Name) → Some x ≡ Some y → x ≡ y
 some-same x y e = cc
 
 -- ---- what is ready
-and-left : (a b : Bool) → (a && b) ≡ true → a ≡ true
+pub and-left : (a b : Bool) → (a && b) ≡ true → a ≡ true
 and-left true b is = refl
 and-left false b is = is
 
@@ -76,7 +77,7 @@ ready-goes s name is = and-left (is_going s.end) (is_ready s.board name) is
 -- ---- what stands on
 -- where the pieces stay, and all else but claims and room, what is kept stands
 pub pieces-stand : (old new : Shared) → Stands old → SamePieces old.board new.board → new ≡ record old { board = new.board } → Stands new
-pieces-stand old new st same rest = subst Stands (sym rest) (same-states old st new.board (same-pieces old.board new.board same) (machines-same (IsMachine old.setup) old.board new.board same st.machines))
+pieces-stand old new st same rest = subst Stands (sym rest) (same-states old st new.board (same-pieces old.board new.board same) (same-pieces-actors old.board new.board same) (machines-same (IsMachine old.setup) old.board new.board same st.machines))
 
 -- ---- claims that end
 module _ (old : Shared) (ticket : Ticket) (b : Board) (same : SamePieces old.board b) where

@@ -3,6 +3,7 @@ pub mod Ends
 pub mod Finished
 pub mod Given
 pub mod Lending
+pub mod Ready
 pub mod Returning
 pub mod Stale
 pub mod Waits

@@ -1,9 +1,8 @@
 -- Results that are given back.
-use Rattle.std.proofs.Common.{◌≡◌, ◌∙◌, Bool, true, false, cond, inl, inr, refl, sym, ap, subst}
+use Rattle.std.proofs.Common.{◌≡◌, ◌∙◌, Bool, true, false, inl, inr, refl, sym, ap, subst}
 use Rattle.std.specs.Option.{option_and_then, option_map}
 use Rattle.std.specs.Prelude.{◌⊎◌, ◌&&◌, None, Option, Some, if◌then◌else◌}
-use Rattle.core_syntax.specs.Table.{Table}
-use Rattle.eval_step.specs.Evaluation.{Evaluation, IsAsk, IsAsking}
+use Rattle.eval_step.specs.Evaluation.{Evaluation}
 use Rattle.interleave_core.specs.Back.{HasGiven, IsBack}
 use Rattle.interleave_core.proofs.Stale.{not-stale}
 use Rattle.interleave_core.specs.Claims.{IsAbandoned}
@@ -13,15 +12,16 @@ use Rattle.attempt_steps.specs.Tasks.{IsWanting}
 use Rattle.serial_model.specs.declared.halt.Halt.{Halt}
 use Rattle.shared_world.proofs.Kept.{unclaimed-keeps}
 use Rattle.shared_world.proofs.Live.{going, unfinished}
+use Rattle.shared_world.proofs.Marks.{pieces-marks}
 use Rattle.shared_world.specs.declared.given.Given.{Given}
 use Rattle.shared_world.specs.Gave as gave
 use Rattle.shared_world.specs.Gave.{Gave}
 use Rattle.shared_world.specs.Returned.{IsLive, Returned, halt_of}
-use Rattle.shared_world.specs.Shared.{Shared, claimed, is_going, kept_work, ready, work_in}
+use Rattle.shared_world.specs.Shared.{Shared, claimed, is_going, ready, work_in}
 use Rattle.shared_world.specs.Stands.{Stands}
 use Rattle.piece_table.specs.Table.{is_free}
 use Rattle.record_pool.proofs.Finds.{cases_ticket}
-use Rattle.unit_table.specs.Board.{AreTied, Board, is_ready, lent_at, lent_to, marks_ready, piece_at}
+use Rattle.unit_table.specs.Board.{AreTied, is_ready, lent_at, lent_to, marks_ready, piece_at}
 use Rattle.unit_table.specs.declared.mark.Mark.{Mark}
 use Rattle.unit_table.specs.declared.mark.Mark.TheVariants as mark
 use Rattle.unit_table.specs.declared.mark.Work.{Work}
@@ -117,6 +117,7 @@ module _ (old mid new : Shared) (r : Returned) (name : Name) (live : IsLive old 
   pub back-so : IsBack old r new
   back-so = record {
     stands = unclaimed-keeps r.ticket mid new wants.stands left.unclaimed;
+    marks = λ marks. pieces-marks mid new left.unclaimed.pieces left.unclaimed.rest (wants.marks marks);
     here = left.unclaimed.here;
     others = λ other ne. left.unclaimed.others other ne ∙ same-claimed other (other-free other ne);
     ready_again = λ q live_q. subst (λ n. ready new n ≡ true) (one-name q live_q) again;
@@ -132,6 +133,7 @@ module _ (old mid new : Shared) (r : Returned) (name : Name) (live : IsLive old 
 pub back-plain : (old new : Shared) (r : Returned) → Stands old → IsAbandoned r.ticket old new → IsBack old r new
 back-plain old new r st left = record {
   stands = unclaimed-keeps r.ticket old new st left.unclaimed;
+  marks = pieces-marks old new left.unclaimed.pieces left.unclaimed.rest;
   here = left.unclaimed.here;
   others = λ other ne. left.unclaimed.others other ne;
   ready_again = λ q live. left.again q live.claim;
@@ -146,6 +148,7 @@ live-gave old new r name found live gives = record { gave = on gives; stale = λ
     on : PieceGave old name found new → Gave old r found new
     on (piece_gave.unit g) = gave.unit name live g
     on (piece_gave.task g) = gave.task name live g
+    on (piece_gave.actor g) = gave.actor name live g
 
 -- a unit that is claimed is not finished
 pub live-unfinished : (old : Shared) (r : Returned) (name : Name) → IsLive old r name → IsOpenUnit old.board name

@@ -1,12 +1,15 @@
--- No row of a unit or of a task answers Stale.
+-- No row of a unit, of a task or of an actor answers Stale.
 use Rattle.std.proofs.Common.{◌≡◌, ◌∙◌, Bool, true, false, sym, ap}
-use Rattle.std.specs.Prelude.{None, Option, Some, ◌==◌}
+use Rattle.std.specs.Prelude.{List, None, Option, Some, ◌==◌}
+use Rattle.actor_mailbox.specs.declared.message.Message.{Message}
+use Rattle.core_syntax.specs.declared.behaviour.Behaviour.{Behaviour}
 use Rattle.eval_step.specs.Evaluation.{Evaluation}
 use Rattle.interleave_core.specs.Giving as gives
 use Rattle.interleave_core.specs.Giving.{PieceGave}
 use Rattle.ref_store.specs.declared.version.Version.{Version}
 use Rattle.ref_store.specs.Store.{versions_of}
 use Rattle.ref_store.specs.Version.{newest}
+use Rattle.serial_model.specs.declared.actor_state.ActorState.{ActorState}
 use Rattle.serial_model.specs.declared.halt.Halt.{Halt}
 use Rattle.serial_model.specs.declared.halt.Halt.TheVariants as halt
 use Rattle.serial_model.specs.declared.request.Request.TheVariants as request
@@ -15,8 +18,9 @@ use Rattle.shared_world.specs.declared.given.Given.{Given}
 use Rattle.shared_world.specs.declared.given.Given.TheVariants as given
 use Rattle.shared_world.specs.rows.Tasks as row
 use Rattle.shared_world.specs.rows.Tasks.{AfterStep, EndGives, Missing, RootGives, StepGives, TaskGives}
-use Rattle.shared_world.specs.rows.Units.{Derefs, ForksIfAllowed, Joins, Tries, UnitGives}
-use Rattle.shared_world.specs.Shared.{Shared, finished_at, ref_now, unit_state}
+use Rattle.shared_world.specs.rows.Turns.{TakesIfAllowed}
+use Rattle.shared_world.specs.rows.Units.{Becomes, Derefs, Finishes, ForksIfAllowed, Joins, Selves, Tries, UnitGives}
+use Rattle.shared_world.specs.Shared.{Shared, actor_of, finished_at, ref_now, unit_state}
 use Rattle.task_fork_join.specs.Attempt.{Attempt, end_at, machine_of}
 use Rattle.task_fork_join.specs.declared.stepped.Stepped.{Stepped}
 use Rattle.task_fork_join.specs.declared.stepped.Stepped.TheVariants as stepped_as
@@ -52,6 +56,18 @@ tries : (old : Shared) (u : Name) (x : Unit) (body : _) (values : _) (at : _) (t
 tries old u x body values at None found new r = ap is_stale r.found_is
 tries old u x body values at (Some tree) found new r = absurd r
 
+becomes : (old : Shared) (u : Name) (x : Unit) (behaviour : _) (state : _) (at : _) (actor : Option Name) (found : Given) (new : Shared) → Becomes old u x behaviour state at actor found new → is_stale found ≡ false
+becomes old u x behaviour state at None found new r = ap is_stale r.found_is
+becomes old u x behaviour state at (Some a) found new r = ap is_stale r.found_is
+
+selves : (old : Shared) (u : Name) (x : Unit) (at : _) (actor : Option Name) (found : Given) (new : Shared) → Selves old u x at actor found new → is_stale found ≡ false
+selves old u x at None found new r = ap is_stale r.found_is
+selves old u x at (Some a) found new r = ap is_stale r.found_is
+
+finishes : (old : Shared) (u : Name) (x : Unit) (v : Value) (actor : Option Name) (found : Given) (new : Shared) → Finishes old u x v actor found new → is_stale found ≡ false
+finishes old u x v None found new r = ap is_stale r.found_is
+finishes old u x v (Some a) found new r = ap is_stale r.settles.found_is
+
 unit-row : (old : Shared) (u : Name) (x : Unit) (h : Halt) (found : Given) (new : Shared) → UnitGives old u x h found new → is_stale found ≡ false
 unit-row old u x (halt.Ask (request.Print text) at) found new r = ap is_stale r.found_is
 unit-row old u x (halt.Ask (request.NewRef v) at) found new r = ap is_stale r.found_is
@@ -60,11 +76,11 @@ unit-row old u x (halt.Ask (request.RefSet ref v) at) found new r = ap is_stale 
 unit-row old u x (halt.Ask (request.Fork body values) at) found new r = forks old u x body values (old.made == old.setup.limits.units) found new r
 unit-row old u x (halt.Ask (request.Join future) at) found new r = joins old u x future (finished_at old.board future) found new r
 unit-row old u x (halt.Ask (request.Dosync body values) at) found new r = tries old u x body values at (named u old.attempts) found new r
-unit-row old u x (halt.Ask (request.Spawn n args) at) found new r = absurd r
-unit-row old u x (halt.Ask (request.Send a args) at) found new r = absurd r
-unit-row old u x (halt.Ask (request.Become n args) at) found new r = absurd r
-unit-row old u x (halt.Ask request.SelfActor at) found new r = absurd r
-unit-row old u x (halt.Value v) found new r = ap is_stale r.found_is
+unit-row old u x (halt.Ask (request.Spawn n args) at) found new r = ap is_stale r.settles.found_is
+unit-row old u x (halt.Ask (request.Send a args) at) found new r = ap is_stale r.settles.found_is
+unit-row old u x (halt.Ask (request.Become n args) at) found new r = becomes old u x n args at (actor_of x.kind) found new r
+unit-row old u x (halt.Ask request.SelfActor at) found new r = selves old u x at (actor_of x.kind) found new r
+unit-row old u x (halt.Value v) found new r = finishes old u x v (actor_of x.kind) found new r
 unit-row old u x (halt.Fault code at) found new r = ap is_stale r.found_is
 unit-row old u x halt.Spent found new r = ap is_stale r.found_is
 
@@ -93,9 +109,15 @@ after : (base : Shared) (u : Name) (x : Unit) (task : Name) (tree : Attempt) (we
 after base u x task tree went None found new r = steps base u x task tree went found new r
 after base u x task tree went (Some e) found new r = root base u x tree e found new r
 
-task-row : (old : Shared) (u : Name) (x : Unit) (task : Name) (tree : Attempt) (machine : Option Evaluation) (found : Given) (new : Shared) → TaskGives old u x task tree machine found new → is_stale found ≡ false
-task-row old u x task tree (Some machine) found new r = after _ u x task r.after r.went (end_at r.after) found new r.comes
-task-row old u x task tree None found new r = root old u x tree r.ended found new r.comes
+task-row : (old : Shared) (u : Name) (x : Unit) (task : Name) (tree : Attempt) (ended : Option TaskEnd) (machine : Option Evaluation) (found : Given) (new : Shared) → TaskGives old u x task tree ended machine found new → is_stale found ≡ false
+task-row old u x task tree None (Some machine) found new r = after _ u x task r.after r.went (end_at r.after) found new r.comes
+task-row old u x task tree None None found new r = absurd r
+task-row old u x task tree (Some ended) machine found new r = root old u x tree ended found new r
+
+-- what an actor comes to
+takes : (old : Shared) (a : Name) (actor : ActorState) (m : Message) (rest : List Message) (behaviour : Behaviour) (full : Bool) (found : Given) (new : Shared) → TakesIfAllowed old a actor m rest behaviour full found new → is_stale found ≡ false
+takes old a actor m rest behaviour true found new r = ap is_stale r.found_is
+takes old a actor m rest behaviour false found new r = ap is_stale r.found_is
 
 -- what comes of a piece is not Stale
 pub not-stale : (old new : Shared) (name : Name) (found : Given) → PieceGave old name found new → found ≡ given.Stale → ⊥
@@ -103,4 +125,5 @@ not-stale old new name found gave is = let no : true ≡ false = sym (ap is_stal
   where
     told : PieceGave old name found new → is_stale found ≡ false
     told (gives.unit g) = unit-row old name g.unit (next_of old.setup (unit_state g.unit)) found new g.gives
-    told (gives.task g) = task-row old g.owner g.unit name g.tree (machine_of g.tree name) found new g.gives
+    told (gives.task g) = task-row old g.owner g.unit name g.tree (end_at g.tree) (machine_of g.tree name) found new g.gives
+    told (gives.actor g) = takes old name g.actor.state g.first g.rest g.can.behaviour (old.made == old.setup.limits.units) found new g.gives

@@ -15,10 +15,12 @@ use Rattle.serial_model.specs.declared.end.End.TheVariants.{Done}
 use Rattle.serial_model.specs.State.{Setup}
 use Rattle.shared_world.proofs.Kept.{gave-keeps}
 use Rattle.shared_world.proofs.Later.{gave-later}
+use Rattle.shared_world.proofs.MarkLaws.{gave-marks, opening-marks}
+use Rattle.shared_world.proofs.Marks.{pieces-marks}
 use Rattle.shared_world.proofs.Opens.{opening-stands}
 use Rattle.shared_world.specs.declared.given.Given.{Given}
-use Rattle.shared_world.specs.Gave.{Gave}
 use Rattle.shared_world.specs.Later.{IsLater}
+use Rattle.shared_world.specs.Marks.{HasMarks}
 use Rattle.shared_world.specs.Opening.{IsOpening}
 use Rattle.shared_world.specs.Returned.{Returned}
 use Rattle.shared_world.specs.Shared.{Shared}
@@ -33,6 +35,7 @@ use Rattle.world_claim.specs.Run.{IsRunOf, parts_of, returned_of}
 pub opening-standing : (setup : Setup) (s : Shared) → IsWellFormed setup.program → IsWithoutActors setup.program → IsOpening setup s → IsStanding s Done
 opening-standing setup s formed covered is = record {
   stands = opening-stands setup s formed is;
+  marks = opening-marks setup s is;
   covered = subst (λ (t : Shared). IsWithoutActors t.setup.program) (sym is.rest) covered;
   done_is = refl;
 }
@@ -41,6 +44,7 @@ opening-standing setup s formed covered is = record {
 pub still-standing : (old new : Shared) (closing : End) → IsStanding old closing → SamePieces old.board new.board → new ≡ record old { board = new.board } → IsStanding new closing
 still-standing old new closing is same rest = record {
   stands = pieces-stand old new is.stands same rest;
+  marks = pieces-marks old new same rest is.marks;
   covered = subst (λ (t : Shared). IsWithoutActors t.setup.program) (sym rest) is.covered;
   done_is = is.done_is;
 }
@@ -57,11 +61,13 @@ claim-standing name old new closing (Err e) is claimed same = still-standing old
 pub given-standing : (old new : Shared) (r : Returned) (closing : End) (result : Result Given AllocError) → IsStanding old closing → GivesBack old r new result → IsStanding new closing
 given-standing old new r closing (Ok found) is given_so = record {
   stands = gave-keeps old new r found is.stands given_so.gave;
+  marks = gave-marks old new r found is.stands is.marks given_so.gave;
   covered = subst (λ (t : Setup). IsWithoutActors t.program) (sym (gave-later old new r found given_so.gave).setup) is.covered;
   done_is = is.done_is;
 }
 given-standing old new r closing (Err e) is back = record {
   stands = back.stands;
+  marks = back.marks is.marks;
   covered = subst (λ (t : Shared). IsWithoutActors t.setup.program) (sym back.rest) is.covered;
   done_is = is.done_is;
 }
@@ -71,9 +77,10 @@ pub run-here : (table : Table) (r : Returned) → r.program ≡ table → IsRunO
 run-here table r same is = subst (λ t. IsRunOf (record r { program = t })) same is
 
 -- the run of the same program goes on
-pub later-standing : (old new : Shared) (closing : End) → IsStanding old closing → Stands new → IsLater old new → IsStanding new closing
-later-standing old new closing is stands later = record {
+pub later-standing : (old new : Shared) (closing : End) → IsStanding old closing → Stands new → (HasMarks old → HasMarks new) → IsLater old new → IsStanding new closing
+later-standing old new closing is stands marks later = record {
   stands = stands;
+  marks = marks is.marks;
   covered = subst (λ (t : Setup). IsWithoutActors t.program) (sym later.setup) is.covered;
   done_is = is.done_is;
 }

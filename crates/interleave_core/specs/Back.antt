@@ -5,6 +5,7 @@ use Rattle.interleave_core.specs.Claims.{IsStale}
 use Rattle.shared_world.specs.declared.given.Given.{Given}
 use Rattle.shared_world.specs.declared.given.Given.TheVariants as given
 use Rattle.shared_world.specs.Gave.{Gave}
+use Rattle.shared_world.specs.Marks.{HasMarks}
 use Rattle.shared_world.specs.Returned.{IsLive, Returned}
 use Rattle.shared_world.specs.Shared.{claimed, ready, Shared}
 use Rattle.shared_world.specs.Stands.{Stands}
@@ -13,9 +14,10 @@ use Rattle.value_core.specs.declared.ticket.Ticket.{Ticket}
 use Rattle.value_core.specs.Named.{Name}
 
 -- The history, the refs, the bytes and the end are as they were, and so is every other piece; the claim is out no more, and every
--- other claim is; the piece is ready again.
+-- other claim is; the piece is ready again; and the marks are right where they were.
 pub record IsBack (old : Shared) (result : Returned) (new : Shared) : Type 0 where
   pub stands : Stands new
+  pub marks : HasMarks old → HasMarks new
   pub here : claimed new result.ticket ≡ None
   pub others : (other : Ticket) → (other ≡ result.ticket → ⊥) → claimed new other ≡ claimed old other
   pub ready_again : (name : Name) → IsLive old result name → ready new name ≡ true

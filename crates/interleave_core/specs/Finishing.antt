@@ -1,13 +1,15 @@
 -- How one thread ends a run.
-use Rattle.std.specs.Prelude.{◌≡◌, Bool, IsSome, None, Option, Some}
+use Rattle.std.specs.Prelude.{◌≡◌, Bool, IsSome, None, Option, Some, false, true}
 use Rattle.interleave_core.specs.Over.{IsOverWith}
 use Rattle.serial_model.specs.declared.end.End.{End}
 use Rattle.shared_world.specs.Later.{IsLater}
+use Rattle.shared_world.specs.Marks.{HasMarks}
 use Rattle.shared_world.specs.Shared.{Shared, claimed}
 use Rattle.shared_world.specs.Stands.{Stands}
 use Rattle.task_fork_join.specs.Attempt.{Attempt}
 use Rattle.unit_table.specs.Board.{Board, ComesAfter, IsNextAfter, SamePieces, but_for, lent_to, mark_at, piece_at}
-use Rattle.unit_table.specs.Piece.{says_finished}
+use Rattle.unit_table.specs.declared.mark.Mark.{Mark}
+use Rattle.unit_table.specs.declared.mark.Mark.TheVariants as mark
 use Rattle.value_core.specs.declared.ticket.Ticket.{Ticket}
 use Rattle.value_core.specs.Named.{Name, Named, named}
 use Rattle.value_core.specs.NameSet.{holds_at}
@@ -26,9 +28,11 @@ pub record IsFinished (s : Shared) (end : End) : Type 0 where
   pub attempts : NoneTried s.attempts
   pub claims : NoneOut s
 
--- What is kept stands, the history goes on from where it was, and where no claim was out none is.
+-- What is kept stands, the marks are right where they were, the history goes on from where it was, and where no claim was out none
+-- is.
 pub record GoesOn (old new : Shared) : Type 0 where
   pub stands : Stands new
+  pub marks : HasMarks old → HasMarks new
   pub later : IsLater old new
   pub claims : NoneOut old → NoneOut new
 
@@ -42,9 +46,15 @@ abbrev pub IsTriedOr : Named Attempt → Option Name → Type 0
 IsTriedOr attempts None = NoneTried attempts
 IsTriedOr attempts (Some u) = IsSome (named u attempts)
 
--- whether what stands under the name is finished
-abbrev pub is_finished : Board → Name → Bool
-is_finished b name = holds_at says_finished (mark_at b name)
+-- nothing can be done with a piece of that mark until something is done to it: it is finished, or rests
+abbrev pub says_at_rest : Mark → Bool
+says_at_rest (mark.Finished v) = true
+says_at_rest mark.Resting = true
+says_at_rest _ = false
+
+-- what stands under the name is finished, or rests
+abbrev pub is_at_rest : Board → Name → Bool
+is_at_rest b name = holds_at says_at_rest (mark_at b name)
 
 -- the piece under that name is the first behind the other one, or none is behind it
 abbrev pub IsNextOr : Board → Option Name → Option Name → Type 0

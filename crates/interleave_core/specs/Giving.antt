@@ -4,13 +4,16 @@ use Rattle.std.specs.declared.alloc.AllocError.{AllocError}
 use Rattle.core_syntax.specs.Table.{Table}
 use Rattle.eval_step.specs.Evaluation.{Evaluation, IsAsk, IsAsking, IsOf, IsSame}
 use Rattle.interleave_core.specs.declared.giving.Moved.{Moved}
+use Rattle.interleave_core.specs.declared.giving.Stander.{Stander}
+use Rattle.interleave_core.specs.declared.giving.Stander.TheVariants as stander
 use Rattle.attempt_steps.specs.Tasks.{IsOwned, IsWanting}
 use Rattle.serial_model.specs.declared.halt.Halt.{Halt}
 use Rattle.shared_world.specs.declared.given.Given.{Given}
 use Rattle.shared_world.specs.Gave.{GaveTask, GaveUnit}
 use Rattle.shared_world.specs.Returned.{halt_of}
+use Rattle.shared_world.specs.rows.Turns.{GaveActor}
 use Rattle.shared_world.specs.Shared.{Shared, finished_by}
-use Rattle.unit_table.specs.Board.{Board, unit_at}
+use Rattle.unit_table.specs.Board.{Board, actor_at, unit_at}
 use Rattle.unit_table.specs.declared.unit.Unit.{Unit}
 use Rattle.unit_table.specs.Piece.{says_ready}
 use Rattle.value_core.specs.Named.{Name}
@@ -41,15 +44,17 @@ pub record IsWaitingUnit (b : Board) (owner : Name) : Type 0 where
   pub there : unit_at b owner ≡ Some unit
   pub waits : says_ready unit.mark ≡ false
 
--- such a task, or a unit
-abbrev pub IsOwnedOr : Shared → Name → Option Name → Type 0
-IsOwnedOr s name None = IsSome (unit_at s.board name)
-IsOwnedOr s name (Some owner) = IsOwned s name owner
+-- a unit stands under the name, a task of the attempt of that unit, or an actor
+abbrev pub IsStanderOf : Shared → Name → Stander → Type 0
+IsStanderOf s name stander.Unit = IsSome (unit_at s.board name)
+IsStanderOf s name (stander.Task owner) = IsOwned s name owner
+IsStanderOf s name stander.Actor = IsSome (actor_at s.board name)
 
 -- what the piece comes to
 pub data PieceGave (old : Shared) (name : Name) (found : Given) (new : Shared) : Type 0 where
   unit : GaveUnit old name found new → PieceGave old name found new
   task : GaveTask old name found new → PieceGave old name found new
+  actor : GaveActor old name found new → PieceGave old name found new
 
 abbrev pub GivesTo : Shared → Name → Shared → Result Given AllocError → Type 0
 GivesTo old name new (Ok found) = PieceGave old name found new

@@ -6,6 +6,14 @@ use Rattle.serial_model.specs.declared.entry.Entry.{Entry}
 use Rattle.serial_model.specs.Limits.{Budget}
 use Rattle.serial_model.specs.Replay.{IsOver, replay}
 use Rattle.serial_model.specs.State.{Setup, State}
+use Rattle.shared_world.specs.Shared.{Shared}
+
+-- what of it is the setup, and what the history
+abbrev pub setup_seen : Shared → Table × Budget
+setup_seen s = (s.setup.program, s.setup.limits)
+
+abbrev pub history_seen : Shared → List Entry
+history_seen s = s.history
 
 -- the setup of a program and limits
 abbrev pub setup_of : Table × Budget → Setup

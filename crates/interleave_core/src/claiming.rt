@@ -8,6 +8,8 @@ ghost use Rattle.interleave_core.specs.declared.error.ClaimNo.TheVariants as no;
 ghost use Rattle.interleave_core.specs.declared.error.NamedNo.TheVariants as named;
 ghost use Rattle.serial_model.specs.declared.end.End.{End as Ending};
 ghost use Rattle.serial_model.specs.declared.end.End.TheVariants as ends;
+ghost use Rattle.shared_world.specs.Marks.{HasMarks};
+ghost use Rattle.shared_world.specs.Rest.{IsAtRest};
 ghost use Rattle.shared_world.specs.Shared.{ready};
 ghost use Rattle.shared_world.specs.Stands.{Stands};
 ghost use Rattle.value_core.specs.Named.{Name as Called};
@@ -20,20 +22,19 @@ use value_core::Name;
 use world_claim::Claim;
 use world_steps::Kept;
 
-/// A claim on a piece that is ready, whichever it is.
+/// A claim on a piece that is ready, whichever it is. Whether the run is over is looked at only where nothing is.
 pub(crate) fn claim_any(kept: &mut Kept, alloc: Global) -> Result<Claim, ClaimNo>
     requires stands { Stands (shared_of kept.old) }
+    requires marks { HasMarks (shared_of kept.old) }
     ensures claim { IfOk result (λ claim. IsClaimOn claim.piece (shared_of kept.old) claim (shared_of kept.new)) }
     ensures ready { IfOk result (λ claim. ready (shared_of kept.old) claim.piece ≡ true) }
     ensures over { IsErrOf result no.Over ↔ IsRunOver (shared_of kept.old) }
     ensures idle { IsErrOf result no.Idle ↔ IsIdle (shared_of kept.old) }
     ensures same { OnErr result (IsSameBut (shared_of kept.old) (shared_of kept.new)) }
 {
-    if is_over(kept) {
-        return Err(ClaimNo::Over);
-    }
     let name = match first_ready(kept) {
         Some(name) => name.copy(alloc)?,
+        None if is_over(kept) => return Err(ClaimNo::Over),
         None => return Err(ClaimNo::Idle),
     };
     Ok(claim_piece(kept, alloc, &name)?)
@@ -90,9 +91,17 @@ pub(crate) fn end_by<'a>(kept: &'a Kept, done: &'a End) -> Option<&'a End>
 {
     match &kept.end {
         Some(end) => Some(end),
-        None => match kept.units.open_unit() {
-            Some(_) => None,
-            None => Some(done),
-        },
+        None if is_at_rest(kept) => Some(done),
+        None => None,
+    }
+}
+
+/// Whether every unit is finished, and nobody has mail. It takes no memory.
+fn is_at_rest(kept: &Kept) -> bool
+    ensures { IsTrue result ↔ IsAtRest (shared_of kept.now) }
+{
+    match kept.units.open_unit() {
+        Some(_) => false,
+        None => kept.mails.is_empty(),
     }
 }

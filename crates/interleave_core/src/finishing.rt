@@ -1,10 +1,11 @@
 // How one thread ends a run.
 ghost use Rattle.std.specs.Prelude.{◌≡◌, [], IfOk, None, OnOk, false};
 ghost use Rattle.std.specs.Option.{option_and_then};
-ghost use Rattle.interleave_core.specs.Finishing.{AreEnding, GoesOn, IsEnded, IsFinished, IsNextOr, IsOverOr, IsTriedOr, NoneOut, NoneTried, is_finished};
+ghost use Rattle.interleave_core.specs.Finishing.{AreEnding, GoesOn, IsEnded, IsFinished, IsNextOr, IsOverOr, IsTriedOr, NoneOut, NoneTried, is_at_rest, says_at_rest};
 ghost use Rattle.world_steps.specs.Kept.{shared_of};
 ghost use Rattle.interleave_core.specs.Over.{IsOverWith};
 ghost use Rattle.shared_world.specs.Later.{IsLater};
+ghost use Rattle.shared_world.specs.Marks.{HasMarks};
 ghost use Rattle.shared_world.specs.Shared.{work_in as kept_work_in};
 ghost use Rattle.shared_world.specs.Stands.{Stands};
 ghost use Rattle.unit_table.specs.Board.{lent_to, mark_at};
@@ -28,6 +29,7 @@ use world_steps::Kept;
 pub(crate) fn finish(kept: &mut Kept, alloc: Global) -> Result<End, AllocError>
     requires stands { Stands (shared_of kept.old) }
     ensures stands { Stands (shared_of kept.new) }
+    ensures marks { HasMarks (shared_of kept.old) → HasMarks (shared_of kept.new) }
     ensures later { IsLater (shared_of kept.old) (shared_of kept.new) }
     ensures finished { IfOk result (IsFinished (shared_of kept.new)) }
 {
@@ -76,7 +78,8 @@ fn undo_all(kept: &mut Kept, alloc: Global) -> Result<(), AllocError>
     Err(AllocError)
 }
 
-/// Settles one entry after the other, always of the first unit in after-order that is not finished, until the run is over.
+/// Settles one entry after the other, always of the first piece in after-order with which something can be done, until the
+/// run is over.
 fn settle_all(kept: &mut Kept, alloc: Global) -> Result<End, AllocError>
     requires stands { Stands (shared_of kept.old) }
     ensures goes { GoesOn (shared_of kept.old) (shared_of kept.new) }
@@ -103,7 +106,7 @@ fn end_reached(kept: &Kept, alloc: Global) -> Result<Option<End>, AllocError>
     }
 }
 
-/// The first piece behind those that were passed takes a step, where it is not finished. It answers which is passed then.
+/// The first piece behind those that were passed takes a step, unless it is at rest. It answers which is passed then.
 fn settle_next(
     kept: &mut Kept,
     alloc: Global,
@@ -119,7 +122,7 @@ fn settle_next(
     }
 }
 
-/// The piece takes a step. Where it is finished or waits it is passed; else it is the next one still.
+/// The piece takes a step. Where it is at rest or waits it is passed; else it is the next one still.
 fn settle_or_pass(
     kept: &mut Kept,
     alloc: Global,
@@ -137,13 +140,13 @@ fn settle_or_pass(
     }
 }
 
-/// The piece takes a step, where it is not finished. Whether it is finished or waits.
+/// The piece takes a step, unless it is at rest. Whether it is at rest or waits.
 fn is_passed(kept: &mut Kept, alloc: Global, name: &Name) -> Result<bool, AllocError>
     requires stands { Stands (shared_of kept.old) }
     requires going { kept.old.end ≡ None }
     ensures { GoesOn (shared_of kept.old) (shared_of kept.new) }
 {
-    if is_finished(&kept.units, name) {
+    if is_at_rest(&kept.units, name) {
         return Ok(true);
     }
     settle_piece(kept, alloc, name)
@@ -153,7 +156,7 @@ fn is_passed(kept: &mut Kept, alloc: Global, name: &Name) -> Result<bool, AllocE
 fn settle_piece(kept: &mut Kept, alloc: Global, name: &Name) -> Result<bool, AllocError>
     requires stands { Stands (shared_of kept.old) }
     requires going { kept.old.end ≡ None }
-    requires unfinished { is_finished kept.old.units name.now ≡ false }
+    requires goes_on { is_at_rest kept.old.units name.now ≡ false }
     ensures { GoesOn (shared_of kept.old) (shared_of kept.new) }
 {
     let machine = copy_machine(kept, alloc, name)?;
@@ -191,13 +194,23 @@ fn tried(alloc: Global, attempts: &BTreeMap<Name, Tree>) -> Result<Option<Name>,
     }
 }
 
-/// Whether what stands under the name is finished.
-fn is_finished(units: &Units, name: &Name) -> bool
-    ensures { result ≡ is_finished units.now name.now }
+/// Whether what stands under the name is finished, or an actor that rests.
+fn is_at_rest(units: &Units, name: &Name) -> bool
+    ensures { result ≡ is_at_rest units.now name.now }
 {
     match units.mark_of(name) {
-        Some(mark) => mark.is_finished(),
+        Some(mark) => says_at_rest(mark),
         None => false,
+    }
+}
+
+/// Whether the mark is that of a piece that is finished, or rests.
+fn says_at_rest(mark: &Mark) -> bool
+    ensures { result ≡ says_at_rest mark.now }
+{
+    match mark {
+        Mark::Finished(_) | Mark::Resting => true,
+        Mark::Ready(_) | Mark::Waiting(_) | Mark::Dropped => false,
     }
 }
 

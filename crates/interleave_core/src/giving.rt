@@ -6,9 +6,9 @@ ghost use Rattle.eval_step.specs.Evaluation.{IsOf};
 ghost use Rattle.interleave_core.specs.Back.{GivesBack};
 ghost use Rattle.interleave_core.specs.Claims.{FindsLive, IsAbandoned};
 ghost use Rattle.attempt_steps.specs.Deciding.{IsTrying};
-ghost use Rattle.interleave_core.specs.Giving.{GivesTo, HasHalted, IsMovedOn, IsOpenUnit, IsOwnedOr, IsWaitingUnit};
+ghost use Rattle.interleave_core.specs.Giving.{GivesTo, HasHalted, IsMovedOn, IsOpenUnit, IsStanderOf, IsWaitingUnit};
 ghost use Rattle.world_steps.specs.Kept.{shared_of};
-ghost use Rattle.attempt_steps.specs.Tasks.{IsTaskAt};
+ghost use Rattle.attempt_steps.specs.Tasks.{IsOwned, IsTaskAt};
 ghost use Rattle.shared_world.specs.Returned.{IsLive, IsSameMachine};
 ghost use Rattle.shared_world.specs.Shared.{kept_machine};
 ghost use Rattle.shared_world.specs.Stands.{Stands};
@@ -35,6 +35,14 @@ use world_steps::Kept;
 pub(crate) struct Moved {
     pub(crate) machine: Machine,
     pub(crate) halt: Halt,
+}
+
+/// What stands under a name: a unit, a task of the attempt of that unit, or an actor.
+#[derive(Drop)]
+pub(crate) enum Stander {
+    Unit,
+    Task(Name),
+    Actor,
 }
 
 /// What a result with these parts comes to. For want of memory its claim is out no more, and its piece is ready again.
@@ -147,47 +155,49 @@ fn give_moved(
     ensures { GivesTo (shared_of kept.old) name.now (shared_of kept.new) result }
 {
     let Moved { machine, halt } = moved;
-    match owner_of(kept, alloc, name)? {
-        Some(owner) => step_task(kept, alloc, &owner, name, machine, halt),
-        None => kept.give_unit(alloc, name, machine, halt),
+    match stander_of(kept, alloc, name)? {
+        Stander::Unit => kept.give_unit(alloc, name, machine, halt),
+        Stander::Task(owner) => step_task(kept, alloc, &owner, name, machine, halt),
+        Stander::Actor => Err(AllocError),
     }
 }
 
-/// What the piece comes to that has no machine: a task that has ended, where the root of its attempt has. Another one, of
-/// which no claim knows, is taken for want of memory.
+/// What the piece comes to that has no machine: an actor takes a message; a task has ended, where the root of its attempt
+/// has. Another one, of which no claim knows, is taken for want of memory.
 fn give_ended(kept: &mut Kept, alloc: Global, name: &Name) -> Result<Given, AllocError>
     requires stands { Stands (shared_of kept.old) }
     requires going { kept.old.end ≡ None }
     requires none { kept_machine (shared_of kept.old) name.now ≡ None }
     ensures { GivesTo (shared_of kept.old) name.now (shared_of kept.new) result }
 {
-    match owner_of(kept, alloc, name)? {
-        Some(owner) => settle_task(kept, alloc, &owner, name),
+    match stander_of(kept, alloc, name)? {
+        Stander::Unit => Err(AllocError),
+        Stander::Task(owner) => settle_task(kept, alloc, &owner, name),
+        Stander::Actor => kept.give_actor(alloc, name),
+    }
+}
+
+/// What stands under the name. What no claim knows is taken for want of memory.
+fn stander_of(kept: &Kept, alloc: Global, name: &Name) -> Result<Stander, AllocError>
+    ensures { IfOk result (IsStanderOf (shared_of kept.now) name.now) }
+{
+    match kept.units.piece(name) {
+        Some(Piece::Unit(_)) => Ok(Stander::Unit),
+        Some(Piece::Task(_)) => Ok(Stander::Task(owner_of(kept, alloc, name)?)),
+        Some(Piece::Actor(_)) => Ok(Stander::Actor),
         None => Err(AllocError),
     }
 }
 
-/// The unit whose attempt the task of that name is of; none where a unit has that name. What no claim knows is taken for
-/// want of memory.
-fn owner_of(kept: &Kept, alloc: Global, name: &Name) -> Result<Option<Name>, AllocError>
-    ensures { IfOk result (IsOwnedOr (shared_of kept.now) name.now) }
-{
-    match kept.units.piece(name) {
-        Some(Piece::Unit(_)) => Ok(None),
-        Some(Piece::Task(_)) => owner_with_attempt(kept, alloc, name),
-        Some(Piece::Actor(_)) | None => Err(AllocError),
-    }
-}
-
 /// The unit whose attempt the task is of.
-fn owner_with_attempt(kept: &Kept, alloc: Global, task: &Name) -> Result<Option<Name>, AllocError>
+fn owner_of(kept: &Kept, alloc: Global, task: &Name) -> Result<Name, AllocError>
     requires { IsTaskAt kept.now.units task.now }
-    ensures { IfOk result (IsOwnedOr (shared_of kept.now) task.now) }
+    ensures { IfOk result (IsOwned (shared_of kept.now) task.now) }
 {
     match kept.owners.get(task) {
         Some(owner) => {
             check_trying(kept, owner)?;
-            Ok(Some(owner.copy(alloc)?))
+            owner.copy(alloc)
         }
         None => Err(AllocError),
     }

@@ -13,6 +13,7 @@ ghost use Rattle.serial_model.specs.declared.end.End.{End as Ending};
 ghost use Rattle.shared_world.specs.declared.given.Given.TheVariants as answers;
 ghost use Rattle.shared_world.specs.Gave.{Gave};
 ghost use Rattle.shared_world.specs.Later.{IsLater};
+ghost use Rattle.shared_world.specs.Marks.{HasMarks};
 ghost use Rattle.shared_world.specs.Opening.{IsOpening};
 ghost use Rattle.shared_world.specs.Shared.{claimed, ready, ref_now};
 ghost use Rattle.shared_world.specs.Stands.{Stands};
@@ -36,7 +37,8 @@ use world_claim::{Claim, Done};
 use world_steps::Kept;
 
 /// The world that the threads of a run share. Contracts see what it keeps: the history, the versions of refs, the pieces with
-/// their marks and claims, the attempts, the bytes and the end. It always stands for the replay of its history.
+/// their marks and claims, the attempts, the bytes and the end. It always stands for the replay of its history, and the mark of
+/// each piece is right: something can be done with it unless it is finished or waits for what is still to come.
 #[derive(Drop)]
 pub struct World {
     kept: Kept,
@@ -127,8 +129,8 @@ impl World {
     }
 
     /// Ends the run by one thread: every claim and every attempt ends, and then one entry after the other is settled, always of
-    /// the first unit in after-order that is not finished, until the run is over; it answers the end. Then no attempt is left, and
-    /// no claim is out. For want of memory the history has grown by whole entries.
+    /// the first piece in after-order with which something can be done, until the run is over; it answers the end. Then no
+    /// attempt is left, and no claim is out. For want of memory the history has grown by whole entries.
     pub fn finish(&mut self, alloc: Global) -> Result<End, AllocError>
         ensures finished { IfOk result (IsFinished self.new) }
         ensures later { IsLater self.old self.new }
@@ -182,9 +184,11 @@ impl World {
         is_ready(&self.kept, piece)
     }
 
-    /// The world stands for the replay of its history, and its program has no actors. It does nothing.
+    /// The world stands for the replay of its history, the mark of each piece is right, and its program has no actors. It does
+    /// nothing.
     pub fn stands(&self)
         ensures stands { Stands self.now }
+        ensures marks { HasMarks self.now }
         ensures covered { IsWithoutActors self.now.setup.program }
     {
         let _done = &self.done;

@@ -1,35 +1,7 @@
-use actor_mailbox::{Mailbox, Message};
+use crate::messages::{message, name, number_of};
+use actor_mailbox::Mailbox;
 use std::alloc::{AllocError, Global};
 use std::test::Fail;
-use value_core::{Name, Value, Values};
-
-/// A message of that sender, with this number, that depends on that name.
-fn message(
-    alloc: Global,
-    sender: u32,
-    number: i64,
-    depends: Option<u32>,
-) -> Result<Message, AllocError> {
-    let mut args = Values::new(alloc);
-    args.add(Value::Int(number))?;
-    Ok(Message {
-        sender: name(alloc, sender)?,
-        args,
-        depends: optional_name(alloc, depends)?,
-    })
-}
-
-fn name(alloc: Global, number: u32) -> Result<Name, AllocError> {
-    let main = Name::main(alloc)?;
-    main.child(alloc, number)
-}
-
-fn optional_name(alloc: Global, number: Option<u32>) -> Result<Option<Name>, AllocError> {
-    match number {
-        Some(number) => Ok(Some(name(alloc, number)?)),
-        None => Ok(None),
-    }
-}
 
 /// Messages 1 to 5: 1 and 4 of sender 0, the others of sender 1; 1, 3 and 4 depend on 7, and 5 on 8.
 fn five_messages(alloc: Global) -> Result<Mailbox, AllocError> {
@@ -47,13 +19,6 @@ fn five_messages(alloc: Global) -> Result<Mailbox, AllocError> {
             .map_err(|_| AllocError)?;
     }
     Ok(mailbox)
-}
-
-fn number_of(message: &Message) -> Option<i64> {
-    match message.args.items() {
-        [Value::Int(number)] => Some(*number),
-        _ => None,
-    }
 }
 
 /// Whether the mailbox holds messages with these numbers, each definite or not, and no others. It takes them.

@@ -3,10 +3,10 @@ use Rattle.std.proofs.Common.{◌≡◌, ℕ, List, Option, None, Some, refl, sy
 use Rattle.core_syntax.specs.Table.{Table}
 use Rattle.value_core.specs.Place.{Spot}
 use Rattle.program_plan.specs.declared.error.PlanKind.{PlanKind}
-use Rattle.program_plan.specs.declared.top.Top.{Top}
+use Rattle.resolved_forms.specs.declared.top.Top.{Top}
 use Rattle.program_plan.specs.Lowered.{first_past, program_of}
 use Rattle.program_plan.specs.Planned.{IsPlanned, IsUnplanned, early, too_many, Reached, early_in, layout_in}
-use Rattle.program_plan.proofs.Reached.{reached_once}
+use Rattle.resolved_forms.proofs.ReachedOnce.{reached_once}
 
 pub one_some : {A : Type 0} (o : Option A) (x y : A) → o ≡ Some x → o ≡ Some y → x ≡ y
 one_some o x y a b = let same : Some x ≡ Some y = sym a ∙ b in cc

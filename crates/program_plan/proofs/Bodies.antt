@@ -6,13 +6,13 @@ use Rattle.value_core.specs.Place.{Spot}
 use Rattle.core_syntax.specs.declared.node.Node.TheVariants.{Nil, Let, Call}
 use Rattle.core_syntax.specs.declared.node_id.NodeId.{NodeId}
 use Rattle.core_syntax.specs.Table.{Table}
-use Rattle.program_plan.specs.declared.expr.Looping.{Looping}
+use Rattle.resolved_forms.specs.declared.expr.Looping.{Looping}
 use Rattle.program_plan.specs.Emitted.{Begun, Emitting, each, by_last, let_of, loop_of, loop_end, loop_function, begun_of}
 use Rattle.program_plan.specs.Frame.{Frame, hidden_places, hidden_at, loop_frame}
 use Rattle.program_plan.specs.Made.{Making, node, nothing, followed}
 use Rattle.program_plan.specs.Reads.{ReadsEach, ReadsBody, ReadsLet, ReadsLoop, IsNilOr}
 use Rattle.program_plan.proofs.Giving.{Gives, gives_node, gives_nothing, gives_followed, gives_in_loop, gives_then, gives_numbers, gives_due}
-use Rattle.program_plan.proofs.LoopNumbers.{of_loop}
+use Rattle.resolved_forms.proofs.LoopNumbers.{of_loop}
 use Rattle.program_plan.proofs.Parts.{Part, emittings, readings, numbers_in, gives_each, gives_locals}
 
 module _ {table : Table} where

@@ -7,8 +7,8 @@ use Rattle.core_syntax.specs.declared.node_id.NodeId.{NodeId}
 use Rattle.core_syntax.specs.WellFormed.{IsBelow, ChildrenBelow}
 use Rattle.program_plan.specs.declared.chain.ChainPart.{ChainPart}
 use Rattle.program_plan.specs.declared.chain.ChainPart.TheVariants as part
-use Rattle.program_plan.specs.declared.head.Head.{Head}
-use Rattle.program_plan.specs.declared.head.Head.TheVariants as head
+use Rattle.resolved_forms.specs.declared.head.Head.{Head}
+use Rattle.resolved_forms.specs.declared.head.Head.TheVariants as head
 use Rattle.program_plan.specs.Chains.{PartBelow}
 use Rattle.program_plan.specs.Applied.{applied, fixed, sent}
 use Rattle.program_plan.specs.Frame.{Frame}

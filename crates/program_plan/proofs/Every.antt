@@ -7,16 +7,16 @@ use Rattle.std.proofs.lemmas.List.Elements.{Contains-append_left, Contains-push,
 use Rattle.value_core.specs.Place.{Spot}
 use Rattle.core_syntax.specs.Table.{Table}
 use Rattle.program_plan.specs.declared.error.PlanKind.{PlanKind}
-use Rattle.program_plan.specs.declared.top.Top.{Top}
-use Rattle.program_plan.specs.declared.uses.Uses.{Uses}
+use Rattle.resolved_forms.specs.declared.top.Top.{Top}
+use Rattle.resolved_forms.specs.declared.uses.Uses.{Uses}
 use Rattle.program_plan.specs.Lowered.{first_past}
-use Rattle.program_plan.specs.Plan.{all_units}
+use Rattle.resolved_forms.specs.Units.{all_units}
 use Rattle.program_plan.specs.Planned.{IsPlanned, IsUnplanned, early, too_many, Reached, early_in, layout_in}
-use Rattle.program_plan.specs.Reach.{Reaches, AreReached}
-use Rattle.program_plan.specs.TopSurvey.{tops_surveyed}
-use Rattle.program_plan.proofs.Members.{none_in}
-use Rattle.program_plan.proofs.Reaching.{Decided, reaching_decided}
-use Rattle.program_plan.proofs.Spreading.{rising_push, there_if_reaching}
+use Rattle.resolved_forms.specs.Reach.{Reaches, AreReached}
+use Rattle.resolved_forms.specs.TopSurvey.{tops_surveyed}
+use Rattle.resolved_forms.proofs.Members.{none_in}
+use Rattle.resolved_forms.proofs.Reaching.{Decided, reaching_decided}
+use Rattle.resolved_forms.proofs.Spreading.{rising_push, there_if_reaching}
 
 -- the list, with the number behind it where something holds
 abbrev put_if : {A : Type 0} → A ⊎ (A → ⊥) → List ℕ → ℕ → List ℕ

@@ -8,10 +8,10 @@ use Rattle.core_syntax.specs.declared.node_id.NodeId.{NodeId}
 use Rattle.core_syntax.specs.declared.row.Row.{Row}
 use Rattle.core_syntax.specs.Table.{main_row}
 use Rattle.core_syntax.proofs.Appends.{slice_get-append_left, slice_get-push}
-use Rattle.program_plan.specs.declared.layout.Layout.{Layout}
-use Rattle.program_plan.specs.declared.top.Top.{Top}
-use Rattle.program_plan.specs.declared.top.TopKind.{TopKind}
-use Rattle.program_plan.specs.declared.top.TopKind.TheVariants.{Global, Value, Function as Defined, Behaviour as Reacts}
+use Rattle.resolved_forms.specs.declared.layout.Layout.{Layout}
+use Rattle.resolved_forms.specs.declared.top.Top.{Top}
+use Rattle.resolved_forms.specs.declared.top.TopKind.{TopKind}
+use Rattle.resolved_forms.specs.declared.top.TopKind.TheVariants.{Global, Value, Function as Defined, Behaviour as Reacts}
 use Rattle.program_plan.specs.Lowered.{Parts, top_making, with_root, with_top, with_tops, program_of_parts}
 use Rattle.program_plan.specs.Made.{Draft, extended}
 use Rattle.program_plan.proofs.Holding.{HasRows, rows_between}

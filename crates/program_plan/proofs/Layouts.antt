@@ -4,11 +4,11 @@ use Rattle.std.specs.List.{slice_get}
 use Rattle.std.specs.Option.{option_map}
 use Rattle.std.proofs.lemmas.Option.{none-some, same_Some, slice_get-map}
 use Rattle.core_syntax.proofs.Appends.{slice_get-append_left}
-use Rattle.program_plan.specs.declared.survey.LoopSurvey.{LoopSurvey}
-use Rattle.program_plan.specs.declared.top_survey.TopSurvey.{TopSurvey}
-use Rattle.program_plan.specs.declared.uses.Uses.{Uses}
+use Rattle.resolved_forms.specs.declared.survey.LoopSurvey.{LoopSurvey}
+use Rattle.resolved_forms.specs.declared.top_survey.TopSurvey.{TopSurvey}
+use Rattle.resolved_forms.specs.declared.uses.Uses.{Uses}
 use Rattle.program_plan.specs.Frame.{hidden_at, or_nothing}
-use Rattle.program_plan.specs.Plan.{all_units, hidden_of, hidden_from, layout_of}
+use Rattle.resolved_forms.specs.Units.{all_units, hidden_of, hidden_from, layout_of}
 use Rattle.program_plan.proofs.Taken.{slice_get-append_right}
 
 module _ (reached : List (List ℕ)) where

@@ -10,7 +10,7 @@ use Rattle.program_plan.specs.Frame.{Frame, local_place}
 use Rattle.program_plan.specs.Made.{node, followed, gathered}
 use Rattle.program_plan.specs.Reads.{Reading, IsLocal, ReadsEach, ReadsIf, ReadsBinding, ReadsCond, ReadsAnd, ReadsOr}
 use Rattle.program_plan.proofs.Giving.{Gives, gives_node, gives_nothing, gives_followed, gives_then, gives_weaker, gives_numbers, gives_due}
-use Rattle.program_plan.proofs.LoopNumbers.{joined}
+use Rattle.resolved_forms.proofs.LoopNumbers.{joined}
 
 -- a part of an expression: what it makes gives what is read, in every frame
 pub record Part (table : Table) : Type 1 where

@@ -6,12 +6,12 @@ use Rattle.core_syntax.specs.declared.function.Function.{Function}
 use Rattle.core_syntax.specs.declared.node.Node.TheVariants.{Nil, Bool as constant, Int, Str, Kw, Local}
 use Rattle.core_syntax.specs.declared.row.Row.{Row}
 use Rattle.core_syntax.specs.Table.{Table}
-use Rattle.program_plan.specs.declared.expr.Expr.{Expr}
-use Rattle.program_plan.specs.declared.expr.ExprKind.{ExprKind}
-use Rattle.program_plan.specs.declared.expr.ExprKind.TheFolds.{ind-Expr, map-ExprKind, fold-roll-Expr, fold-roll-ExprKind}
-use Rattle.program_plan.specs.declared.expr.ExprKind.TheOpen as one
-use Rattle.program_plan.specs.declared.expr.ExprKind.TheViews.{roll-ExprKind, roll-Expr}
-use Rattle.program_plan.specs.declared.head.Head.{Head}
+use Rattle.resolved_forms.specs.declared.expr.Expr.{Expr}
+use Rattle.resolved_forms.specs.declared.expr.ExprKind.{ExprKind}
+use Rattle.resolved_forms.specs.declared.expr.ExprKind.TheFolds.{ind-Expr, map-ExprKind, fold-roll-Expr, fold-roll-ExprKind}
+use Rattle.resolved_forms.specs.declared.expr.ExprKind.TheOpen as one
+use Rattle.resolved_forms.specs.declared.expr.ExprKind.TheViews.{roll-ExprKind, roll-Expr}
+use Rattle.resolved_forms.specs.declared.head.Head.{Head}
 use Rattle.program_plan.specs.Applied.{applied}
 use Rattle.program_plan.specs.Emitted as made
 use Rattle.program_plan.specs.Emitted.{Emitting, each, emitted, emitted_kind}
@@ -21,7 +21,7 @@ use Rattle.program_plan.specs.Reads.{Reading, ReadsApply, ReadsLet, ReadsCond, R
 use Rattle.program_plan.proofs.Bodies.{gives_let, gives_loop}
 use Rattle.program_plan.proofs.Giving.{Gives, gives_node, gives_then, gives_due}
 use Rattle.program_plan.proofs.Holding.{HasRows, rows_between, HaveNumbers}
-use Rattle.program_plan.proofs.LoopNumbers.{joined, of_loop, loop_numbers, numbers_of_kind, numbers_step, expr_step}
+use Rattle.resolved_forms.proofs.LoopNumbers.{joined, of_loop, loop_numbers, numbers_of_kind, numbers_step, expr_step}
 use Rattle.program_plan.proofs.Parts.{Part, emittings, readings, numbers_in, gives_each, gives_cond, gives_and, gives_or}
 use Rattle.program_plan.proofs.ReadingLevels.{reading-roll, reading-roll_kind}
 

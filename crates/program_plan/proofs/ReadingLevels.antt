@@ -3,11 +3,11 @@ use Rattle.std.proofs.Common.{◌≡◌, ◌∙◌, List, map, refl, sym, ap}
 use Rattle.std.proofs.lemmas.Simd.{map-map}
 use Rattle.value_core.specs.Place.{Spot}
 use Rattle.core_syntax.specs.Table.{Table}
-use Rattle.program_plan.specs.declared.expr.Expr.{Expr}
-use Rattle.program_plan.specs.declared.expr.ExprKind.{ExprKind}
-use Rattle.program_plan.specs.declared.expr.ExprKind.TheFolds.{rec-roll-Expr, rec-roll-ExprKind, map-ExprKind}
-use Rattle.program_plan.specs.declared.expr.ExprKind.TheOpen as one
-use Rattle.program_plan.specs.declared.expr.ExprKind.TheViews.{out-Expr, out-ExprKind, roll-Expr, roll-ExprKind, roll-out-Expr, roll-out-ExprKind}
+use Rattle.resolved_forms.specs.declared.expr.Expr.{Expr}
+use Rattle.resolved_forms.specs.declared.expr.ExprKind.{ExprKind}
+use Rattle.resolved_forms.specs.declared.expr.ExprKind.TheFolds.{rec-roll-Expr, rec-roll-ExprKind, map-ExprKind}
+use Rattle.resolved_forms.specs.declared.expr.ExprKind.TheOpen as one
+use Rattle.resolved_forms.specs.declared.expr.ExprKind.TheViews.{out-Expr, out-ExprKind, roll-Expr, roll-ExprKind, roll-out-Expr, roll-out-ExprKind}
 use Rattle.program_plan.specs.Reads.{Reading, ReadsApply, ReadsLet, ReadsCond, ReadsAnd, ReadsOr, ReadsLoop, IsNilOr, kind_step, reading_of, reading_of_kind}
 
 module _ (table : Table) {X Y : Type 0} (v : Y → Expr) (w : X → ExprKind) (read : Expr → Reading) where

@@ -9,11 +9,11 @@ use Rattle.std.proofs.lemmas.Bool.{cases_lt}
 use Rattle.std.proofs.lemmas.Cmp.{ranked}
 use Rattle.std.proofs.lemmas.List.Elements.{All-cons, All-append, All-nil}
 use Rattle.std.proofs.lemmas.List.Kept.{AllPairs-from_increasing}
-use Rattle.program_plan.specs.declared.top_survey.TopSurvey.{TopSurvey}
-use Rattle.program_plan.specs.declared.uses.Uses.{Uses}
+use Rattle.resolved_forms.specs.declared.top_survey.TopSurvey.{TopSurvey}
+use Rattle.resolved_forms.specs.declared.uses.Uses.{Uses}
 use Rattle.program_plan.specs.Frame.{Rises, LayoutRises}
-use Rattle.program_plan.specs.Plan.{rising, hidden_of, hidden_from, layout_of}
-use Rattle.program_plan.specs.Reach.{AreReached}
+use Rattle.resolved_forms.specs.Units.{rising, hidden_of, hidden_from, layout_of}
+use Rattle.resolved_forms.specs.Reach.{AreReached}
 
 -- the number is below each of these
 Over : ℕ → List ℕ → Type 0

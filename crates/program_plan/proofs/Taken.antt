@@ -11,31 +11,14 @@ use Rattle.core_syntax.specs.declared.behaviour.Behaviour.{Behaviour}
 use Rattle.core_syntax.specs.declared.function.Function.{Function}
 use Rattle.core_syntax.specs.Fits.{function_takes, state_takes}
 use Rattle.core_syntax.proofs.Appends.{slice_get-append_left}
-use Rattle.program_plan.specs.declared.layout.Layout.{Layout}
-use Rattle.program_plan.specs.declared.top.Top.{Top}
-use Rattle.program_plan.specs.declared.top.TopKind.{TopKind}
-use Rattle.program_plan.specs.declared.top.TopKind.TheVariants as top
+use Rattle.resolved_forms.specs.declared.layout.Layout.{Layout}
+use Rattle.resolved_forms.specs.declared.top.Top.{Top}
+use Rattle.resolved_forms.specs.declared.top.TopKind.{TopKind}
+use Rattle.resolved_forms.specs.declared.top.TopKind.TheVariants as top
+use Rattle.resolved_forms.specs.FormsInRange.{kind_params, kind_states, params_of, states_of}
 use Rattle.program_plan.specs.Frame.{hidden_at, hidden_count}
 use Rattle.program_plan.specs.Lowered.{Parts, no_parts, with_top, with_tops, program_of}
-use Rattle.program_plan.specs.TopSurvey.{is_behaviour, behaviours_among, tops_from}
-
--- how many parameters each function has
-abbrev pub kind_params : TopKind → List ℕ
-kind_params (top.Function takes inner) = takes ∷ []
-kind_params _ = []
-
-abbrev pub params_of : List Top → List ℕ
-params_of [] = []
-params_of (form ∷ forms) = kind_params form.kind ++ params_of forms
-
--- how many state parameters each behaviour has
-abbrev pub kind_states : TopKind → List ℕ
-kind_states (top.Behaviour head inner) = head.state ∷ []
-kind_states _ = []
-
-abbrev pub states_of : List Top → List ℕ
-states_of [] = []
-states_of (form ∷ forms) = kind_states form.kind ++ states_of forms
+use Rattle.resolved_forms.specs.TopSurvey.{is_behaviour, behaviours_among, tops_from}
 
 -- how many arguments functions take from a number on, with the hidden ones
 abbrev takes_from : Layout → ℕ → List ℕ → List ℕ

@@ -3,8 +3,8 @@ use Rattle.std.specs.Prelude.{List, [], ◌∷◌}
 use Rattle.core_syntax.specs.declared.node.Node.{Node}
 use Rattle.core_syntax.specs.declared.node.Node.TheVariants as node
 use Rattle.core_syntax.specs.declared.node_id.NodeId.{NodeId}
-use Rattle.program_plan.specs.declared.head.Head.{Head}
-use Rattle.program_plan.specs.declared.head.Head.TheVariants as head
+use Rattle.resolved_forms.specs.declared.head.Head.{Head}
+use Rattle.resolved_forms.specs.declared.head.Head.TheVariants as head
 use Rattle.program_plan.specs.Frame.{Frame, hidden_places, hidden_at}
 
 -- the node of a head that takes a fixed number of parts, and nil where there is another number of them

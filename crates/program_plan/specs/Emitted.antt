@@ -4,11 +4,11 @@ use Rattle.value_core.specs.Place.{Spot}
 use Rattle.core_syntax.specs.declared.function.Function.{Function}
 use Rattle.core_syntax.specs.declared.node.Node.TheVariants.{Nil, Bool as constant, Int, Str, Kw, Local, If, Let, Call, Turn}
 use Rattle.core_syntax.specs.declared.node_id.NodeId.{NodeId}
-use Rattle.program_plan.specs.declared.expr.Expr.{Expr}
-use Rattle.program_plan.specs.declared.expr.ExprKind.{ExprKind}
-use Rattle.program_plan.specs.declared.expr.ExprKind.TheOpen as one
-use Rattle.program_plan.specs.declared.expr.ExprKind.TheFolds.{fold-Expr, fold-ExprKind}
-use Rattle.program_plan.specs.declared.expr.Looping.{Looping}
+use Rattle.resolved_forms.specs.declared.expr.Expr.{Expr}
+use Rattle.resolved_forms.specs.declared.expr.ExprKind.{ExprKind}
+use Rattle.resolved_forms.specs.declared.expr.ExprKind.TheOpen as one
+use Rattle.resolved_forms.specs.declared.expr.ExprKind.TheFolds.{fold-Expr, fold-ExprKind}
+use Rattle.resolved_forms.specs.declared.expr.Looping.{Looping}
 use Rattle.program_plan.specs.Applied.{applied}
 use Rattle.program_plan.specs.Frame.{Frame, global_place, local_place, hidden_places, hidden_count, hidden_at, loop_frame}
 use Rattle.program_plan.specs.Made.{Making, node, nothing, followed, gathered, in_loop}

@@ -2,8 +2,8 @@
 use Rattle.std.specs.Prelude.{ℕ, ◌+◌, ◌-◌, List, [], ◌++◌, map, length, nat_lt, if◌then◌else◌, count_by, Option, Some, None, All}
 use Rattle.std.specs.List.{slice_get}
 use Rattle.std.specs.List.Sorted.{IsNonDecreasing}
-use Rattle.program_plan.specs.declared.layout.Hidden.{Hidden}
-use Rattle.program_plan.specs.declared.layout.Layout.{Layout}
+use Rattle.resolved_forms.specs.declared.layout.Hidden.{Hidden}
+use Rattle.resolved_forms.specs.declared.layout.Layout.{Layout}
 
 -- in a program of that layout: first the listed globals, then the outer locals of the listed levels, and then the
 -- locals of level `base` and on

@@ -1,16 +1,9 @@
 pub mod Applied
 pub mod Chains
-pub mod Early
 pub mod Emitted
 pub mod Frame
 pub mod Lowered
 pub mod Made
-pub mod Plan
 pub mod Planned
-pub mod Reach
 pub mod Reads
 pub mod Sound
-pub mod Survey
-pub mod TopSurvey
-pub mod Users
-pub mod Uses

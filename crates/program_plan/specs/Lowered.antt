@@ -11,12 +11,12 @@ use Rattle.core_syntax.specs.Table.{Table, finished}
 use Rattle.program_plan.specs.declared.error.PlanKind.TheVariants.{TooManyNodes}
 use Rattle.program_plan.specs.declared.error.PlanNo.{PlanNo}
 use Rattle.program_plan.specs.declared.error.PlanNo.TheVariants.{Memory, Refused}
-use Rattle.program_plan.specs.declared.expr.Expr.{Expr}
-use Rattle.program_plan.specs.declared.layout.Layout.{Layout}
-use Rattle.program_plan.specs.declared.top.Reacting.{Reacting}
-use Rattle.program_plan.specs.declared.top.Top.{Top}
-use Rattle.program_plan.specs.declared.top.TopKind.{TopKind}
-use Rattle.program_plan.specs.declared.top.TopKind.TheVariants.{Global, Value, Function as Defined, Behaviour as Reacts}
+use Rattle.resolved_forms.specs.declared.expr.Expr.{Expr}
+use Rattle.resolved_forms.specs.declared.layout.Layout.{Layout}
+use Rattle.resolved_forms.specs.declared.top.Reacting.{Reacting}
+use Rattle.resolved_forms.specs.declared.top.Top.{Top}
+use Rattle.resolved_forms.specs.declared.top.TopKind.{TopKind}
+use Rattle.resolved_forms.specs.declared.top.TopKind.TheVariants.{Global, Value, Function as Defined, Behaviour as Reacts}
 use Rattle.program_plan.specs.Emitted.{emitted, turn_of}
 use Rattle.program_plan.specs.Frame.{Frame, frame_of, hidden_at, hidden_count}
 use Rattle.program_plan.specs.Made.{Draft, Making, extended, answered}

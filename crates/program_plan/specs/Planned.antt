@@ -6,13 +6,13 @@ use Rattle.program_plan.specs.declared.error.PlanKind.{PlanKind}
 use Rattle.program_plan.specs.declared.error.PlanKind.TheVariants.{EarlyGlobal, TooManyNodes}
 use Rattle.program_plan.specs.declared.error.PlanNo.{PlanNo}
 use Rattle.program_plan.specs.declared.error.PlanNo.TheVariants.{Memory, Refused}
-use Rattle.program_plan.specs.declared.layout.Layout.{Layout}
-use Rattle.program_plan.specs.declared.top.Top.{Top}
-use Rattle.program_plan.specs.Early.{first_early}
+use Rattle.resolved_forms.specs.declared.layout.Layout.{Layout}
+use Rattle.resolved_forms.specs.declared.top.Top.{Top}
+use Rattle.resolved_forms.specs.Early.{first_early}
 use Rattle.program_plan.specs.Lowered.{first_past, program_of}
-use Rattle.program_plan.specs.Plan.{all_units, layout_of}
-use Rattle.program_plan.specs.Reach.{AreReached}
-use Rattle.program_plan.specs.TopSurvey.{tops_surveyed}
+use Rattle.resolved_forms.specs.Units.{all_units, layout_of}
+use Rattle.resolved_forms.specs.Reach.{AreReached}
+use Rattle.resolved_forms.specs.TopSurvey.{tops_surveyed}
 
 -- these lists have the globals that each unit of code reaches, of so many globals in all
 abbrev pub Reached : List Top → ℕ → List (List ℕ) → Type 0

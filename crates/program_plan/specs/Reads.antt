@@ -6,12 +6,12 @@ use Rattle.core_syntax.specs.declared.node.Node.{Node}
 use Rattle.core_syntax.specs.declared.node.Node.TheVariants.{Nil, Bool as constant, Int, Str, Kw, Local, If, Let, Call}
 use Rattle.core_syntax.specs.declared.node_id.NodeId.{NodeId}
 use Rattle.core_syntax.specs.Table.{Table, node_at, place_at}
-use Rattle.program_plan.specs.declared.expr.Expr.{Expr}
-use Rattle.program_plan.specs.declared.expr.ExprKind.{ExprKind}
-use Rattle.program_plan.specs.declared.expr.ExprKind.TheFolds.{rec-Expr, rec-ExprKind}
-use Rattle.program_plan.specs.declared.expr.ExprKind.TheOpen as one
-use Rattle.program_plan.specs.declared.expr.Looping.{Looping}
-use Rattle.program_plan.specs.declared.head.Head.{Head}
+use Rattle.resolved_forms.specs.declared.expr.Expr.{Expr}
+use Rattle.resolved_forms.specs.declared.expr.ExprKind.{ExprKind}
+use Rattle.resolved_forms.specs.declared.expr.ExprKind.TheFolds.{rec-Expr, rec-ExprKind}
+use Rattle.resolved_forms.specs.declared.expr.ExprKind.TheOpen as one
+use Rattle.resolved_forms.specs.declared.expr.Looping.{Looping}
+use Rattle.resolved_forms.specs.declared.head.Head.{Head}
 use Rattle.program_plan.specs.Applied.{applied}
 use Rattle.program_plan.specs.Emitted.{loop_function}
 use Rattle.program_plan.specs.Frame.{Frame, global_place, local_place, hidden_places, hidden_at, loop_frame}

@@ -2,8 +2,8 @@ ghost use Rattle.std.specs.Prelude.{◌≡◌, IfOk};
 ghost use Rattle.program_plan.specs.Applied.{applied as applied_of, fixed as fixed_of, sent as sent_of};
 
 use crate::frame::Frame;
-use crate::head::Head;
 use core_syntax::{Node, NodeId, NodeIds};
+use resolved_forms::Head;
 use std::alloc::{AllocError, Global};
 use value_core::Seq;
 

@@ -5,8 +5,9 @@ ghost use Rattle.program_plan.specs.Made.{Makes};
 
 use crate::emitter::Emitter;
 use crate::frame::Frame;
-use core_syntax::{BuildNo, Node, NodeId, as_number, sum_of};
-use std::alloc::{AllocError, Global};
+use core_syntax::{BuildNo, Node, NodeId};
+use resolved_forms::number_after;
+use std::alloc::Global;
 use value_core::{Place, Seq};
 
 /// What a chain of parts is.
@@ -68,7 +69,7 @@ impl Emitter {
         let mut left = parts.len();
         'parts: while left > 0 {
             left -= 1;
-            let level = level_after(level, left)?;
+            let level = number_after(level, left)?;
             rest = self.push_chain_node(alloc, frame, at, level, parts[left], rest)?;
         }
         Ok(rest)
@@ -122,11 +123,4 @@ impl Emitter {
         let bound = Seq::from_slice(alloc, [value].as_slice())?;
         self.push(at, Node::Let(bound, choice))
     }
-}
-
-/// The level of the local that is bound after `count` others from that level on.
-pub(crate) fn level_after(level: u32, count: usize) -> Result<u32, AllocError>
-    ensures { IfOk result (λ after. after ≡ level + count) }
-{
-    sum_of(level, as_number(count)?)
 }

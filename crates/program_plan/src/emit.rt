@@ -7,13 +7,12 @@ ghost use Rattle.program_plan.specs.Applied.{applied as applied_of};
 ghost use Rattle.core_syntax.specs.declared.node.Node.TheVariants.{Nil};
 
 use crate::apply::applied;
-use crate::chain::{Chain, ChainPart, level_after};
+use crate::chain::{Chain, ChainPart};
 use crate::emitter::Emitter;
 use crate::end_loop::loop_function;
-use crate::expr::{Expr, ExprKind, Looping};
 use crate::frame::Frame;
-use crate::head::Head;
 use core_syntax::{BuildNo, Node, NodeId, NodeIds};
+use resolved_forms::{Expr, ExprKind, Head, Looping, number_after};
 use std::alloc::Global;
 use value_core::lists::add;
 use value_core::{Place, Seq};
@@ -189,7 +188,7 @@ impl Emitter {
         ensures below { IfOk result (λ tested. PartBelow (length self.new.rows) tested) }
         ensures kept { length self.old.rows ≤ length self.new.rows }
     {
-        let level = level_after(level, index)?;
+        let level = number_after(level, index)?;
         self.emit_chain_part(alloc, frame, at, kind, level, part)
     }
 

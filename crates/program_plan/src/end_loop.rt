@@ -4,9 +4,9 @@ ghost use Rattle.program_plan.specs.Emitted.{each, local as local_of, loop_end, 
 ghost use Rattle.program_plan.specs.Made.{Makes};
 
 use crate::emitter::Emitter;
-use crate::expr::Looping;
-use crate::frame::Frame;
+use crate::frame::{Frame, count_hidden};
 use core_syntax::{BuildNo, Function, Node, NodeId, NodeIds, as_number, sum_of};
+use resolved_forms::Looping;
 use std::alloc::{AllocError, Global};
 use value_core::lists::add;
 use value_core::{Place, Seq};
@@ -62,7 +62,7 @@ pub(crate) fn loop_function(
 ) -> Result<Function, AllocError>
     ensures { IfOk result (λ function. function ≡ function_of at frame.now looping.now body) }
 {
-    let hidden = frame.function(looping.number)?.count()?;
+    let hidden = count_hidden(frame.function(looping.number)?)?;
     let own = as_number(looping.arguments.items().len())?;
     let takes = sum_of(hidden, own)?;
     Ok(Function { at, takes, body })

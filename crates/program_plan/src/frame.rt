@@ -2,8 +2,8 @@ ghost use Rattle.std.specs.Prelude.{◌≡◌, ◌+◌, ◌-◌, ◌≤◌, [], 
 ghost use Rattle.std.specs.List.Sorted.{IsNonDecreasing};
 ghost use Rattle.program_plan.specs.Frame.{LayoutRises, Rises, frame_of, loop_frame, position_of, global_place, local_place, hidden_at, hidden_places, hidden_count};
 
-use crate::layout::{Hidden, Layout};
 use core_syntax::{Locals, as_number};
+use resolved_forms::{Hidden, Layout};
 use std::alloc::{AllocError, Global};
 use std::marker::Model;
 use value_core::Seq;
@@ -152,13 +152,11 @@ impl<'a> Frame<'a> {
     }
 }
 
-impl Hidden {
-    /// How many there are.
-    pub(crate) fn count(&self) -> Result<u32, AllocError>
-        ensures { IfOk result (λ count. count ≡ hidden_count self.now) }
-    {
-        as_number(self.globals.items().len() + self.levels.items().len())
-    }
+/// How many hidden arguments there are.
+pub(crate) fn count_hidden(hidden: &Hidden) -> Result<u32, AllocError>
+    ensures { IfOk result (λ count. count ≡ hidden_count hidden.now) }
+{
+    as_number(hidden.globals.items().len() + hidden.levels.items().len())
 }
 
 /// The hidden arguments with that number. One that is not there counts as want of memory.

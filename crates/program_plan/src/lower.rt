@@ -3,7 +3,7 @@ ghost use Rattle.std.specs.List.{range_with_len};
 ghost use Rattle.core_syntax.specs.declared.build_no.BuildNo.TheVariants.{TooManyNodes};
 ghost use Rattle.core_syntax.specs.Limit.{node_limit};
 ghost use Rattle.core_syntax.specs.WellFormed.{IsBelow, IsTurnAt};
-ghost use Rattle.program_plan.specs.declared.top.TopKind.TheVariants.{Function as Defined, Behaviour as Reacts};
+ghost use Rattle.resolved_forms.specs.declared.top.TopKind.TheVariants.{Function as Defined, Behaviour as Reacts};
 ghost use Rattle.program_plan.specs.Emitted.{emitted};
 ghost use Rattle.program_plan.specs.Frame.{LayoutRises, frame_of, hidden_at, hidden_count};
 ghost use Rattle.program_plan.specs.Lowered.{RefusedAs, behaviour_making, first_past, main_frame, no_parts, program_of, program_of_parts, top_making, with_root, with_step, with_top};
@@ -11,14 +11,12 @@ ghost use Rattle.program_plan.specs.Made.{answered, extended};
 
 use crate::emitter::Emitter;
 use crate::error::{PlanKind, PlanNo, refused};
-use crate::expr::Expr;
-use crate::frame::{Frame, hidden_at};
-use crate::layout::Layout;
-use crate::top::{Reacting, Top, TopForms, TopKind};
+use crate::frame::{Frame, count_hidden, hidden_at};
 use core_syntax::{
     Behaviour, Behaviours, BuildNo, Function, Functions, NodeId, Program, Step, Steps, as_number,
     sum_of,
 };
+use resolved_forms::{Expr, Layout, Reacting, Top, TopForms, TopKind};
 use std::alloc::{AllocError, Global};
 use std::marker::Model;
 use value_core::lists::add;
@@ -228,7 +226,7 @@ fn add_function(
 {
     let number = as_number(functions.items().len())?;
     let hidden = hidden_at(&layout.functions, number)?;
-    let takes = sum_of(hidden.count()?, params)?;
+    let takes = sum_of(count_hidden(hidden)?, params)?;
     let frame = Frame::of_body(layout, hidden, 0);
     let body = emitter.emit(alloc, &frame, expr)?;
     add(functions, Function { at, takes, body })?;
@@ -252,7 +250,7 @@ fn add_behaviour(
 {
     let number = as_number(behaviours.items().len())?;
     let hidden = hidden_at(&layout.behaviours, number)?;
-    let count = hidden.count()?;
+    let count = count_hidden(hidden)?;
     let takes = sum_of(sum_of(count, head.state)?, head.message)?;
     let frame = Frame::of_body(layout, hidden, 0);
     let body = emitter.emit_turn(alloc, &frame, head.at, takes, expr)?;

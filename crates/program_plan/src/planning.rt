@@ -1,17 +1,16 @@
 ghost use Rattle.std.specs.Prelude.{◌≡◌, IfOk, IfErr};
-ghost use Rattle.program_plan.specs.Plan.{all_units};
+ghost use Rattle.core_syntax.specs.Fits.{IsFitting};
+ghost use Rattle.resolved_forms.specs.FormsInRange.{FormsInRange};
+ghost use Rattle.resolved_forms.specs.Units.{all_units};
 ghost use Rattle.program_plan.specs.Planned.{IsPlanned, IsUnplanned, Reached, RefusedAs};
-ghost use Rattle.program_plan.specs.Reach.{AreReached};
-ghost use Rattle.program_plan.specs.TopSurvey.{tops_surveyed};
+ghost use Rattle.resolved_forms.specs.Reach.{AreReached};
+ghost use Rattle.resolved_forms.specs.TopSurvey.{tops_surveyed};
+ghost use Rattle.value_core.specs.primitives.Words.{takes_of};
 
-use crate::early::first_early;
 use crate::error::{PlanKind, PlanNo, refused};
 use crate::lower::lower;
-use crate::reach::reached;
-use crate::top::TopForms;
-use crate::top_survey::{TopSurvey, survey_tops};
-use crate::units::{layout, units};
 use core_syntax::Program;
+use resolved_forms::{TopForms, TopSurvey, all_units, first_early, lay_out, reached, survey_tops};
 use std::alloc::{AllocError, Global};
 use value_core::Seq;
 
@@ -19,8 +18,11 @@ use value_core::Seq;
 ///
 /// `EarlyGlobal` comes first, at the first such form, and only where there is none `TooManyNodes`. Want of memory can
 /// come at any time.
+#[tactic(auto, using(crate::proofs::Fitting::plan_fits))]
 pub fn plan(alloc: Global, tops: &TopForms, globals: u32) -> Result<Program, PlanNo>
     ensures program { IfOk result (IsPlanned tops.now globals) }
+    // of forms in range, the nodes have frames in which each name lies, and each call has as many arguments as are taken
+    ensures fits { FormsInRange tops.now globals → IfOk result (IsFitting takes_of) }
     ensures refused { IfErr result (RefusedAs (IsUnplanned tops.now globals)) }
 {
     let survey = survey_tops(alloc, tops)?;
@@ -32,7 +34,7 @@ pub fn plan(alloc: Global, tops: &TopForms, globals: u32) -> Result<Program, Pla
 fn reached_in(alloc: Global, survey: &TopSurvey, globals: u32) -> Result<Seq<Seq<u32>>, AllocError>
     ensures { IfOk result (AreReached (all_units survey.now) globals) }
 {
-    let units = units(alloc, survey)?;
+    let units = all_units(alloc, survey)?;
     reached(alloc, &units, globals)
 }
 
@@ -53,6 +55,6 @@ fn program_with(
     if let Some(at) = first_early(survey, lists) {
         return Err(refused(PlanKind::EarlyGlobal, at));
     }
-    let layout = layout(alloc, survey, lists)?;
+    let layout = lay_out(alloc, survey, lists)?;
     lower(alloc, tops, &layout)
 }

@@ -4,9 +4,9 @@ ghost use Rattle.program_plan.specs.Emitted.{emitted, turn_of};
 ghost use Rattle.program_plan.specs.Made.{Makes};
 
 use crate::emitter::Emitter;
-use crate::expr::Expr;
 use crate::frame::Frame;
 use core_syntax::{BuildNo, Node, NodeId};
+use resolved_forms::Expr;
 use std::alloc::Global;
 use value_core::Place;
 

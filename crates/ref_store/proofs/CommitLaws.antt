@@ -13,7 +13,7 @@ use Rattle.value_core.specs.Roomy.{Roomy}
 use Rattle.value_core.proofs.NamedLaws.{IsBelow, after_cmp-itself, named-first, named-other, rises-first, rises-rest}
 use Rattle.value_core.proofs.Tests.{both, first_of, second_of}
 use Rattle.ref_store.specs.declared.version.Version.{Version}
-use Rattle.ref_store.specs.Places.{room_in, versions_in, AreAdded, IsAdded, IsReady}
+use Rattle.ref_store.specs.Places.{room_in, versions_in, AreAdded, AreWatched, IsAdded, IsReady}
 use Rattle.ref_store.specs.Store.{committed, version_of, versions_of, with_version, HasRoom, HasRoomFor, IsAbove}
 use Rattle.ref_store.proofs.WriteLaws.{rise_at}
 
@@ -83,9 +83,10 @@ pub record IsUnderWay (number : ℕ) (all : Named Value) (old : Places) (left : 
   pub work : committed (versions_in places) left number ≡ committed (versions_in old) all number
   pub others : (name : Name) → named name all ≡ None → HasRoom name (room_in old) → HasRoom name (room_in places)
   pub among : All (λ write. IsSome (named write.0 all)) left
+  pub watched : (names : List Name) → AreWatched names old → AreWatched names places
 
 pub at_start : (number : ℕ) (all : Named Value) (old : Places) → Rises old → Rises all → All (λ write. IsReady number old write.0) all → IsUnderWay number all old all old
-at_start number all old rises order ready = record { rises = rises; order = order; ready = ready; work = refl; others = λ name none has. has; among = all_found all }
+at_start number all old rises order ready = record { rises = rises; order = order; ready = ready; work = refl; others = λ name none has. has; among = all_found all; watched = λ names watched. watched }
 
 -- the last of the writes that are left has its place
 pub last_ready : (number : ℕ) (all : Named Value) (old : Places) (left rest : Named Value) (places : Places) (write : Name × Value) → IsUnderWay number all old left places → left ≡ rest ++ write ∷ [] → IsReady number places write.0
@@ -109,6 +110,7 @@ one_added number all old left rest places new write way is added = record {
       ∙ ap (λ (ws : Named Value). committed (versions_in places) ws number) (sym is) ∙ way.work;
   others = λ name none has. added.others name (λ same. missing name same none) (way.others name none has);
   among = all_front (λ (w : Name × Value). IsSome (named w.0 all)) rest write among;
+  watched = λ names watched. added.watched names (way.watched names watched);
 }
   where
     order : Rises (rest ++ write ∷ [])
@@ -127,6 +129,7 @@ at_end number all old left places way none = record {
   rises = way.rises;
   shows = ap (λ (ws : Named Value). committed (versions_in places) ws number) (sym none) ∙ way.work;
   others = way.others;
+  watched = way.watched;
 }
 
 -- what a commit asks of the store makes each place ready

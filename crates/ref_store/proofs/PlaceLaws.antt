@@ -1,19 +1,19 @@
 -- What the places of refs show, and the room at them.
-use Rattle.std.proofs.Common.{◌≡◌, ◌∙◌, ℕ, ◌<◌, ◌≤◌, Bool, true, false, cond, List, [], ◌∷◌, ◌++◌, get_or, refl, sym, ap, subst, Option, Some, None, arith}
+use Rattle.std.proofs.Common.{◌≡◌, ◌∙◌, ℕ, ◌<◌, ◌≤◌, Bool, true, false, cond, List, [], ◌∷◌, ◌++◌, get_or, refl, sym, ap, subst, Option, Some, None, inl, inr, arith}
 use Rattle.std.specs.Prelude.{All, unwrap_or}
-use Rattle.std.specs.List.{AllZip}
-use Rattle.std.specs.Map.Calls.{RetainsPairs}
+use Rattle.std.specs.List.{Contains}
+use Rattle.std.proofs.lemmas.Bool.Decides.{nat_tests}
 use Rattle.std.specs.Option.{option_and_then, option_map, IsSome}
 use Rattle.value_core.specs.declared.value.Value.{Value}
 use Rattle.value_core.specs.Named.{Name, Named, named, with_named, each_as, same_name, Rises}
 use Rattle.value_core.specs.Placed.{filled, HasPlace, Placed}
 use Rattle.value_core.specs.Roomy.{Roomy}
-use Rattle.value_core.proofs.NamedLaws.{named-here, named-with_named, rises-with_named, same_name-equal}
+use Rattle.value_core.proofs.NamedLaws.{found_in, named-here, named-with_named, rises-with_named, same_name-equal}
 use Rattle.value_core.proofs.NamedViews.{each_as-with_named, named-each_as, rises_each, view_found, view_none}
 use Rattle.value_core.proofs.PlacedLaws.{filled_shows, named_filled, prepared_shows, rises_filled}
 use Rattle.ref_store.specs.declared.version.Version.{Version}
 use Rattle.ref_store.specs.Pruned.{IsPruned}
-use Rattle.ref_store.specs.Places.{if_any, room_in, versions_in, IsAdded, IsPrunedPlace, IsReserved}
+use Rattle.ref_store.specs.Places.{if_any, is_busy, room_in, versions_in, ArePrunedPlaces, AreWatched, IsAdded, IsPrunedPlace, IsReserved}
 use Rattle.ref_store.specs.Store.{versions_of, ArePruned, HasRoom, Kept}
 use Rattle.ref_store.proofs.PruneLaws.{staying_pruned}
 
@@ -84,6 +84,25 @@ room_kept other name place places here has = subst (λ (o : Option ℕ). 0 < unw
     on true same = let equal = same_name-equal other name same in here equal (subst (λ n. HasRoom n (room_in places)) equal has)
     on false same = has
 
+-- ---- the names of the busy places
+-- a place that has room is busy
+pub roomy_busy : (place : Roomy Version) → 0 < place.room → is_busy place ≡ true
+roomy_busy place some = grind (arith, nat_tests)
+
+-- where the name of a place that is put is in the list, all busy places are there still
+pub watched_put : (names : List Name) (name : Name) (old new : Places) (place : Roomy Version) → new ≡ with_named old name place → Contains names name → AreWatched names old → AreWatched names new
+watched_put names name old new place put there watched = subst (λ (p : Places). AreWatched names p) (sym put) on
+  where
+    on : AreWatched names (with_named old name place)
+    on other found is busy = elim (found_in other name place found old is) [
+      | inl here ↦ subst (λ n. Contains names n) (sym here.0) there
+      | inr before ↦ watched other found before busy
+    ]
+
+-- a list with more names has them all still
+pub watched_more : (names more : List Name) (places : Places) → ((name : Name) → Contains names name → Contains more name) → AreWatched names places → AreWatched more places
+watched_more names more places kept watched name place is busy = kept name (watched name place is busy)
+
 -- ---- a place is made, or gets more room
 pub more_room : (name : Name) (old new : Places) (before after : Roomy Version) → named name old ≡ Some before → new ≡ with_named old name after → after.items ≡ before.items → before.room ≤ after.room
     → each_as items_shown new ≡ each_as items_shown old → IsReserved old new
@@ -127,9 +146,9 @@ some_pushed (w ∷ vs) v = refl
 has_shown : (name : Name) (places : Places) (place : Roomy Version) → named name places ≡ Some place → HasPlace name (each_as items_shown places)
 has_shown name places place there = subst (λ (o : Option (Option (List Version))). IsSome o) (sym (view_found items_shown name places place there)) refl
 
-pub added : (name : Name) (version : Version) (old new : Places) (before after : Roomy Version) → Rises old → named name old ≡ Some before → new ≡ with_named old name after → after.items ≡ before.items ++ version ∷ []
-    → IsAdded name version old new
-added name version old new before after rises there put items = record {
+pub added : (name : Name) (version : Version) (old new : Places) (before after : Roomy Version) → Rises old → named name old ≡ Some before → 0 < before.room → new ≡ with_named old name after
+    → after.items ≡ before.items ++ version ∷ [] → IsAdded name version old new
+added name version old new before after rises there room put items = record {
   rises = subst (λ (p : Places). Rises p) (sym put) (rises-with_named name after old rises);
   shows =
       ap (λ (p : Places). versions_in p) put
@@ -137,35 +156,18 @@ added name version old new before after rises there put items = record {
       ∙ filled_shows name (before.items ++ version ∷ []) (each_as items_shown old) (rises_each items_shown old rises) (has_shown name old before there)
       ∙ ap (λ (vs : List Version). with_named (versions_in old) name (vs ++ version ∷ [])) (sym (versions_there name old before rises there));
   others = λ other apart has. subst (λ (p : Places). HasRoom other (room_in p)) (sym put) (room_kept other name after old (λ equal here. absurd (apart equal)) has);
+  watched = λ names watched. watched_put names name old new after put (watched name before there (roomy_busy before room)) watched;
 }
 
 -- ---- all places are pruned
 module _ (live : List ℕ) where
-  -- what stands under a name afterwards
-  abbrev AreAlike : Option (Roomy Version) → Option (Roomy Version) → Type 0
-  AreAlike None None = Unit {0}
-  AreAlike None (Some new) = ⊥
-  AreAlike (Some old) None = ⊥
-  AreAlike (Some old) (Some new) = IsPruned live old.items new.items × (old.room ≤ new.room)
-
-  alike : (name : Name) (old new : Places) → AllZip (IsPrunedPlace live) old new → AreAlike (named name old) (named name new)
-  alike name [] [] zipped = tt
-  alike name [] (f ∷ fs) zipped = absurd zipped
-  alike name (e ∷ es) [] zipped = absurd zipped
-  alike name (e ∷ es) (f ∷ fs) zipped =
-      subst (λ n. AreAlike (cond (same_name name e.0) (Some e.1) (named name es)) (cond (same_name name n) (Some f.1) (named name fs))) (sym zipped.0.same_name) (on (same_name name e.0) (alike name es fs zipped.1))
-    where
-      on : (b : Bool) → AreAlike (named name es) (named name fs) → AreAlike (cond b (Some e.1) (named name es)) (cond b (Some f.1) (named name fs))
-      on true rest = (zipped.0.pruned, zipped.0.kept)
-      on false rest = rest
-
-  pub all_pruned : (old new : Places) → Rises old → Rises new → AllZip (IsPrunedPlace live) old new → ArePruned live (versions_in old) (versions_in new)
-  all_pruned old new rises rises_new zipped name = on (named name old) refl (named name new) refl (alike name old new zipped)
+  pub all_pruned : (old new : Places) → Rises old → Rises new → ArePrunedPlaces live old new → ArePruned live (versions_in old) (versions_in new)
+  all_pruned old new rises rises_new pruned name = on (named name old) refl (named name new) refl (pruned name)
     where
       nothing : IsPruned live [] []
       nothing = staying_pruned live [] (λ i j d lt in_range. absurd (omega arith))
 
-      on : (o : Option (Roomy Version)) → named name old ≡ o → (p : Option (Roomy Version)) → named name new ≡ p → AreAlike o p → IsPruned live (versions_of (versions_in old) name) (versions_of (versions_in new) name)
+      on : (o : Option (Roomy Version)) → named name old ≡ o → (p : Option (Roomy Version)) → named name new ≡ p → IsPrunedPlace live o p → IsPruned live (versions_of (versions_in old) name) (versions_of (versions_in new) name)
       on None none None gone is =
           subst (λ (vs : List Version). IsPruned live vs (versions_of (versions_in new) name)) (sym (versions_nowhere name old rises none))
           (subst (λ (vs : List Version). IsPruned live [] vs) (sym (versions_nowhere name new rises_new gone)) nothing)
@@ -175,23 +177,12 @@ module _ (live : List ℕ) where
           subst (λ (vs : List Version). IsPruned live vs (versions_of (versions_in new) name)) (sym (versions_there name old p rises was))
           (subst (λ (vs : List Version). IsPruned live p.items vs) (sym (versions_there name new q rises_new there)) is.0)
 
-  pub pruned_room : (old new : Places) → AllZip (IsPrunedPlace live) old new → (name : Name) → HasRoom name (room_in old) → HasRoom name (room_in new)
-  pruned_room old new zipped name has = on (named name old) refl (named name new) refl (alike name old new zipped)
+  pub pruned_room : (old new : Places) → ArePrunedPlaces live old new → (name : Name) → HasRoom name (room_in old) → HasRoom name (room_in new)
+  pruned_room old new pruned name has = on (named name old) refl (named name new) refl (pruned name)
     where
-      on : (o : Option (Roomy Version)) → named name old ≡ o → (p : Option (Roomy Version)) → named name new ≡ p → AreAlike o p → HasRoom name (room_in new)
+      on : (o : Option (Roomy Version)) → named name old ≡ o → (p : Option (Roomy Version)) → named name new ≡ p → IsPrunedPlace live o p → HasRoom name (room_in new)
       on None none p there is = absurd (no_room name old none has)
       on (Some p) was None gone is = absurd is
       on (Some p) was (Some q) there is =
           let room = room_there name old p was has in
           subst (λ (o : Option ℕ). 0 < unwrap_or o 0) (sym (view_found (λ (r : Roomy Version). r.room) name new q there)) (let le = is.1 in omega arith)
-
--- what a closure leaves that prunes each place, and keeps it
-pub zip_retained : (live : List ℕ) {F : Type 0} (Calls : F → Name → Roomy Version → Bool → Roomy Version → F → Type 0) (f : F)
-    → ((k : Name) (v : Roomy Version) (b : Bool) (w : Roomy Version) (g : F) → Calls f k v b w g → (b ≡ true) × IsPruned live v.items w.items × (v.room ≤ w.room) × (g ≡ f))
-    → (es kept : Places) → RetainsPairs Calls f es kept → AllZip (IsPrunedPlace live) es kept
-zip_retained live Calls f call [] kept retained = subst (λ (ks : Places). AllZip (IsPrunedPlace live) [] ks) (sym retained) tt
-zip_retained live {F} Calls f call (e ∷ es) kept (b, w, g, rest, called, more, is) =
-    let one = call e.0 e.1 b w g called in
-    let all = zip_retained live Calls f call es rest (subst (λ (h : F). RetainsPairs Calls h es rest) one.3 more) in
-    subst (λ (ks : Places). AllZip (IsPrunedPlace live) (e ∷ es) ks) (sym (is ∙ ap (λ c. cond c ((e.0, w) ∷ rest) rest) one.0))
-    (record { same_name = refl; pruned = one.1; kept = one.2 }, all)

@@ -2,6 +2,7 @@
 //! no live number reads.
 #![tactic(auto)]
 
+mod pruning;
 mod store;
 mod version;
 mod versions;

@@ -1,12 +1,14 @@
-ghost use Rattle.std.specs.Prelude.{◌≡◌, ◌<◌, ℕ, [], All, None, OnOk};
-ghost use Rattle.std.specs.List.{AllZip};
+ghost use Rattle.std.specs.Prelude.{◌≡◌, ◌+◌, ◌<◌, ℕ, List, [], true, All, None, OnOk, Some};
+ghost use Rattle.std.specs.List.{Contains};
 ghost use Rattle.std.specs.List.Sorted.{IsNonDecreasing};
 ghost use Rattle.std.specs.Option.{option_copied};
-ghost use Rattle.value_core.specs.Named.{Name as Naming, named, Rises};
-ghost use Rattle.ref_store.specs.Places.{room_in, AreAdded, IsAdded, IsPrunedPlace, IsReady, IsReserved};
+ghost use Rattle.value_core.specs.Named.{Name as Naming, Named, named, Rises};
+ghost use Rattle.ref_store.specs.Places.{has_busy, room_in, HasOneMore, AreAdded, AreFew, AreWatched, IsAdded, IsReady, IsReserved};
 ghost use Rattle.ref_store.specs.Store.{committed, versions_of, ArePruned, HasRoom, HasRoomFor, IsAbove, ReadsStayBelow, ReadsWrittenFrom};
+ghost use Rattle.ref_store.specs.declared.version.Version.{Version as Item};
 ghost use Rattle.ref_store.specs.Version.{newest, value_at, IsHighest, IsReadAt};
 
+use crate::pruning::prune;
 use crate::versions::Versions;
 use crate::{Version, Writes};
 use std::alloc::{AllocError, Global};
@@ -19,11 +21,14 @@ use value_core::{Name, Value};
 #[derive(Drop)]
 pub struct Store {
     refs: BTreeMap<Name, Versions>,
+    // The refs that a prune looks at: each that has room for a version or several versions, and perhaps some others.
+    watched: Vec<Name>,
+    // How many versions a ref has at most, where that is known.
+    most: Option<usize>,
 }
 
 impl Model for Store {
-    ghost use Rattle.value_core.specs.Named.{Rises};
-    ghost use Rattle.ref_store.specs.Places.{room_in, versions_in};
+    ghost use Rattle.ref_store.specs.Places.{room_in, versions_in, AreKept};
     ghost use Rattle.ref_store.specs.Store.{kept_code, Kept};
 
     ghost Value = { Kept };
@@ -32,7 +37,7 @@ impl Model for Store {
 
     ghost view = { λ s. record { versions = versions_in s.refs.entries; room = room_in s.refs.entries } };
 
-    ghost invariant = { λ s. Rises s.refs.entries };
+    ghost invariant = { λ s. AreKept s.most s.watched.items s.refs.entries };
 }
 
 impl Store {
@@ -42,6 +47,8 @@ impl Store {
     {
         Store {
             refs: BTreeMap::new(alloc),
+            watched: Vec::new(alloc),
+            most: Some(0),
         }
     }
 
@@ -79,7 +86,7 @@ impl Store {
         ensures room { OnOk result (HasRoomFor writes.now.items self.new.room) }
         ensures kept { (name : Naming) → HasRoom name self.old.room → HasRoom name self.new.room }
     {
-        reserve(&mut self.refs, alloc, writes.items())
+        reserve(&mut self.refs, &mut self.watched, alloc, writes.items())
     }
 
     /// Adds a version to each ref that is written: the value, with this number. It takes no memory, and the other refs
@@ -94,42 +101,110 @@ impl Store {
         ensures kept { (name : Naming) → named name writes.items ≡ None → HasRoom name self.old.room → HasRoom name self.new.room }
     {
         commit(&mut self.refs, writes.into_items(), number);
+        self.most = one_more(self.most);
     }
 
-    /// Drops the versions that no live number reads, but for the newest of each ref. It takes no memory, and no ref has
-    /// less room.
+    /// Drops versions that no live number reads, so that no ref keeps more than one beside those that live numbers can read.
+    /// Where none has more, it may leave them all. It takes no memory, and no ref has less room.
     pub fn prune(&mut self, live: &[u64])
         requires { IsNonDecreasing live.now }
         ensures versions { ArePruned live.now self.old.versions self.new.versions }
         ensures above { (number : ℕ) → IsAbove number self.old.versions → IsAbove number self.new.versions }
         ensures kept { (name : Naming) → HasRoom name self.old.room → HasRoom name self.new.room }
     {
-        prune(&mut self.refs, live);
+        if are_few(self.most, live.len()) {
+            return;
+        }
+        self.most = Some(prune(&mut self.refs, &mut self.watched, live));
     }
 }
 
 fn reserve(
     refs: &mut BTreeMap<Name, Versions>,
+    watched: &mut Vec<Name>,
     alloc: Global,
     writes: &[(Name, Value)],
 ) -> Result<(), AllocError>
     ensures reserved { IsReserved refs.old.entries refs.new.entries }
     ensures room { OnOk result (HasRoomFor writes.now (room_in refs.new.entries)) }
+    ensures watched { AreWatched watched.old.items refs.old.entries → AreWatched watched.new.items refs.new.entries }
 {
     for write in writes {
-        reserve_one(refs, alloc, &write.0)?;
+        reserve_one(refs, watched, alloc, &write.0)?;
     }
     Ok(())
 }
 
-/// Makes room for one version more of the ref.
+/// Makes room for one version more of the ref, which is looked at by the next prune.
 fn reserve_one(
+    refs: &mut BTreeMap<Name, Versions>,
+    watched: &mut Vec<Name>,
+    alloc: Global,
+    name: &Name,
+) -> Result<(), AllocError>
+    ensures reserved { IsReserved refs.old.entries refs.new.entries }
+    ensures room { OnOk result (HasRoom name.now (room_in refs.new.entries)) }
+    ensures watched { AreWatched watched.old.items refs.old.entries → AreWatched watched.new.items refs.new.entries }
+{
+    watch(refs, watched, alloc, name)?;
+    make_room(refs, alloc, name)
+}
+
+/// Puts the name into the list, if it is not there for certain.
+fn watch(
+    refs: &BTreeMap<Name, Versions>,
+    watched: &mut Vec<Name>,
+    alloc: Global,
+    name: &Name,
+) -> Result<(), AllocError>
+    ensures kept { (other : Naming) → Contains watched.old.items other → Contains watched.new.items other }
+    ensures there { AreWatched watched.old.items refs.now.entries → OnOk result (Contains watched.new.items name.now) }
+{
+    if is_busy(refs, name) {
+        return Ok(());
+    }
+    Ok(watched.push(name.copy(alloc)?)?)
+}
+
+/// How many versions a ref has at most, where each may have got one more.
+fn one_more(most: Option<usize>) -> Option<usize>
+    ensures { (old new : Named (List Item)) → HasOneMore old new → AreFew most old → AreFew result new }
+{
+    match most {
+        Some(count) => count.checked_add(1),
+        None => None,
+    }
+}
+
+/// Whether no ref has more versions than one beside one for each live number.
+fn are_few(most: Option<usize>, live: usize) -> bool
+    ensures { (versions : Named (List Item)) → result ≡ true → AreFew most versions → AreFew (Some (live + 1)) versions }
+{
+    match most {
+        Some(count) => count.saturating_sub(1) <= live,
+        None => false,
+    }
+}
+
+/// Whether the ref has room for a version or several versions.
+fn is_busy(refs: &BTreeMap<Name, Versions>, name: &Name) -> bool
+    ensures { result ≡ has_busy (named name.now refs.now.entries) }
+{
+    match find(refs, name) {
+        Some(versions) => versions.is_busy(),
+        None => false,
+    }
+}
+
+/// Makes room for one version more of the ref.
+fn make_room(
     refs: &mut BTreeMap<Name, Versions>,
     alloc: Global,
     name: &Name,
 ) -> Result<(), AllocError>
     ensures reserved { IsReserved refs.old.entries refs.new.entries }
     ensures room { OnOk result (HasRoom name.now (room_in refs.new.entries)) }
+    ensures watched { (names : List Naming) → Contains names name.now → AreWatched names refs.old.entries → AreWatched names refs.new.entries }
 {
     match refs.get_mut(name) {
         Some(versions) => versions.reserve_one(),
@@ -162,15 +237,4 @@ fn add(refs: &mut BTreeMap<Name, Versions>, name: &Name, version: Version)
     if let Some(versions) = refs.get_mut(name) {
         versions.push(version);
     }
-}
-
-fn prune(refs: &mut BTreeMap<Name, Versions>, live: &[u64])
-    requires { IsNonDecreasing live.now }
-    ensures pruned { AllZip (IsPrunedPlace live.now) refs.old.entries refs.new.entries }
-    ensures rises { Rises refs.new.entries }
-{
-    refs.retain(|_, versions| {
-        versions.prune(live);
-        true
-    });
 }

@@ -1,7 +1,8 @@
-ghost use Rattle.std.specs.Prelude.{◌≡◌, ◌+◌, ◌<◌, ◌≤◌, ◌&&◌, ◌++◌, ◌∷◌, [], drop, length, nat_le, nat_lt, take, All, OnOk, vec_capacity};
+ghost use Rattle.std.specs.Prelude.{◌≡◌, ◌+◌, ◌<◌, ◌≤◌, ◌&&◌, ◌++◌, ◌∷◌, [], drop, length, false, nat_le, nat_lt, take, All, IfSome, IsNone, OnOk, vec_capacity};
 ghost use Rattle.std.specs.List.{list_any};
 ghost use Rattle.std.specs.List.Sorted.{IsNonDecreasing};
 ghost use Rattle.std.specs.Option.{option_copied};
+ghost use Rattle.ref_store.specs.Places.{is_busy};
 ghost use Rattle.ref_store.specs.Pruned.{first_staying, has_between, staying, IsPruned};
 ghost use Rattle.ref_store.specs.Version.{newest, version_at, NumbersRise};
 
@@ -9,14 +10,15 @@ use crate::Version;
 use std::alloc::{AllocError, Global};
 use std::marker::Model;
 
-/// The versions of a ref, the oldest first, with the room for more.
+/// The versions of a ref, the oldest first, and whether room for one more has been made since the last one came.
 #[derive(Drop)]
 pub(crate) struct Versions {
     all: Vec<Version>,
+    is_reserved: bool,
 }
 
 impl Model for Versions {
-    ghost use Rattle.std.specs.Prelude.{◌-◌};
+    ghost use Rattle.std.specs.Prelude.{◌-◌, if◌then◌else◌};
     ghost use Rattle.std.specs.Vec.{vec_capacity, vec_len};
     ghost use Rattle.value_core.specs.Roomy.{Roomy};
     ghost use Rattle.ref_store.specs.declared.version.Version.{Version};
@@ -26,7 +28,7 @@ impl Model for Versions {
 
     ghost coded = { versions_code };
 
-    ghost view = { λ v. record { items = v.all.items; room = vec_capacity v.all - vec_len v.all } };
+    ghost view = { λ v. record { items = v.all.items; room = if v.is_reserved then vec_capacity v.all - vec_len v.all else 0 } };
 
     ghost invariant = { λ v. NumbersRise v.all.items };
 }
@@ -38,6 +40,7 @@ impl Versions {
     {
         Versions {
             all: Vec::new(alloc),
+            is_reserved: false,
         }
     }
 
@@ -67,16 +70,49 @@ impl Versions {
         ensures room { OnOk result (0 < self.new.room) }
         ensures kept { self.old.room ≤ self.new.room }
     {
-        self.all.reserve(1)
+        self.all.reserve(1)?;
+        self.is_reserved = true;
+        Ok(())
     }
 
-    /// Adds a version that is newer than all. It takes no memory.
+    /// How many versions more there is room for.
+    fn room(&self) -> usize
+        ensures { result ≡ self.now.room }
+    {
+        if self.is_reserved {
+            self.all.capacity() - self.all.len()
+        } else {
+            0
+        }
+    }
+
+    /// Whether there is room for a version more, or a version beside the newest. It takes no memory.
+    pub(crate) fn is_busy(&self) -> bool
+        ensures { result ≡ is_busy self.now }
+    {
+        self.room() > 0 || self.all.len() > 1
+    }
+
+    /// How many versions there are, where there is room for one more or a version beside the newest. It takes no memory.
+    pub(crate) fn count_if_busy(&self) -> Option<usize>
+        ensures idle { IsNone result → is_busy self.now ≡ false }
+        ensures count { IfSome result (λ count. length self.now.items ≡ count) }
+    {
+        if self.is_busy() {
+            Some(self.all.len())
+        } else {
+            None
+        }
+    }
+
+    /// Adds a version that is newer than all, and uses up the room that was made. It takes no memory.
     pub(crate) fn push(&mut self, version: Version)
         requires room { 0 < self.old.room }
         requires newer { All (λ old. old.number < version.number) self.old.items }
         ensures { self.new.items ≡ self.old.items ++ version ∷ [] }
     {
         self.all.push_reserved(version);
+        self.is_reserved = false;
     }
 
     /// Drops the versions that no live number reads, but for the newest. It takes no memory, and the room does not shrink.

@@ -1,13 +1,17 @@
 -- What a result that is given appends.
-use Rattle.std.proofs.Common.{◌≡◌, ◌∙◌, ◌++◌, ◌∷◌, ◌==◌, [], ℕ, Bool, true, false, Option, None, Some, refl, sym, ap, append-nil}
+use Rattle.std.proofs.Common.{◌≡◌, ◌∙◌, ◌++◌, ◌∷◌, ◌==◌, [], ℕ, List, Bool, true, false, Option, None, Some, refl, sym, ap, append-nil}
+use Rattle.actor_mailbox.specs.declared.message.Message.{Message}
+use Rattle.core_syntax.specs.declared.behaviour.Behaviour.{Behaviour}
 use Rattle.eval_step.specs.Evaluation.{Evaluation}
 use Rattle.ref_store.specs.declared.version.Version.{Version}
 use Rattle.ref_store.specs.Store.{versions_of}
 use Rattle.ref_store.specs.Version.{newest}
 use Rattle.schedule_drive.specs.Entries.{Appends, settled_by}
 use Rattle.schedule_drive.specs.Laws.{GaveAppends}
+use Rattle.serial_model.specs.declared.actor_state.ActorState.{ActorState}
 use Rattle.serial_model.specs.declared.end.End.{End}
-use Rattle.serial_model.specs.declared.entry.Entry.TheVariants.{Run}
+use Rattle.serial_model.specs.declared.entry.Entry.{Entry}
+use Rattle.serial_model.specs.declared.entry.Entry.TheVariants.{Run, Take}
 use Rattle.serial_model.specs.declared.halt.Halt.{Halt}
 use Rattle.serial_model.specs.declared.halt.Halt.TheVariants as halt
 use Rattle.serial_model.specs.declared.request.Request.TheVariants as request
@@ -17,11 +21,12 @@ use Rattle.shared_world.specs.declared.given.Given.TheVariants as given
 use Rattle.shared_world.specs.Gave as gave
 use Rattle.shared_world.specs.Gave.{Gave}
 use Rattle.shared_world.specs.rows.Attempts.{Aborts}
-use Rattle.shared_world.specs.rows.Pieces.{Ends, Settles}
+use Rattle.shared_world.specs.rows.Pieces.{Ends, EndsBy, Settles}
 use Rattle.shared_world.specs.rows.Tasks as tasks
 use Rattle.shared_world.specs.rows.Tasks.{AfterStep, Conflicts, EndGives, IsMarkedTask, Missing, RootGives, StepGives, TaskGives}
-use Rattle.shared_world.specs.rows.Units.{Derefs, ForksIfAllowed, Joins, Tries, UnitGives}
-use Rattle.shared_world.specs.Shared.{Shared, finished_at, ref_now}
+use Rattle.shared_world.specs.rows.Turns.{TakesIfAllowed}
+use Rattle.shared_world.specs.rows.Units.{Becomes, Derefs, Finishes, ForksIfAllowed, Joins, Selves, Tries, UnitGives}
+use Rattle.shared_world.specs.Shared.{Shared, actor_of, finished_at, ref_now}
 use Rattle.task_fork_join.specs.Attempt.{Attempt}
 use Rattle.task_fork_join.specs.declared.stepped.Stepped.{Stepped}
 use Rattle.task_fork_join.specs.declared.stepped.Stepped.TheVariants as stepped
@@ -39,8 +44,8 @@ stays old new found none setup history = record {
 }
 
 -- an entry is settled and appended
-adds : (old new : Shared) (found : Given) (u : Name) → found ≡ given.Settled (Run u) → new.setup ≡ old.setup → new.history ≡ old.history ++ Run u ∷ [] → Appends (settled_by found) old new
-adds old new found u is setup history = record {
+adds : (old new : Shared) (found : Given) (entry : Entry) → found ≡ given.Settled entry → new.setup ≡ old.setup → new.history ≡ old.history ++ entry ∷ [] → Appends (settled_by found) old new
+adds old new found entry is setup history = record {
   setup = setup;
   history = history ∙ ap (λ es. old.history ++ es) (sym (ap settled_by is));
 }
@@ -49,11 +54,14 @@ module _ (old : Shared) where
   settles : (base : Shared) (u : Name) (x : Unit) (after : UnitState) (found : Given) (new : Shared) → base.setup ≡ old.setup → base.history ≡ old.history
       → Settles base u x after found new → Appends (settled_by found) old new
   settles base u x after found new setup history row =
-      adds old new found u row.found_is (ap (λ (s : Shared). s.setup) row.others ∙ setup) (ap (λ (s : Shared). s.history) row.others ∙ ap (λ es. es ++ Run u ∷ []) history)
+      adds old new found (Run u) row.found_is (ap (λ (s : Shared). s.setup) row.others ∙ setup) (ap (λ (s : Shared). s.history) row.others ∙ ap (λ es. es ++ Run u ∷ []) history)
+
+  ends_by : (base : Shared) (entry : Entry) (end : End) (found : Given) (new : Shared) → base.setup ≡ old.setup → base.history ≡ old.history → EndsBy base entry end found new → Appends (settled_by found) old new
+  ends_by base entry end found new setup history row =
+      adds old new found entry row.found_is (ap (λ (s : Shared). s.setup) row.others ∙ setup) (ap (λ (s : Shared). s.history) row.others ∙ ap (λ es. es ++ entry ∷ []) history)
 
   ends : (base : Shared) (u : Name) (end : End) (found : Given) (new : Shared) → base.setup ≡ old.setup → base.history ≡ old.history → Ends base u end found new → Appends (settled_by found) old new
-  ends base u end found new setup history row =
-      adds old new found u row.found_is (ap (λ (s : Shared). s.setup) row.others ∙ setup) (ap (λ (s : Shared). s.history) row.others ∙ ap (λ es. es ++ Run u ∷ []) history)
+  ends base u = ends_by base (Run u)
 
   -- what a unit comes to
   unit_gives : (u : Name) (x : Unit) (h : Halt) (found : Given) (new : Shared) → UnitGives old u x h found new → Appends (settled_by found) old new
@@ -80,11 +88,23 @@ module _ (old : Shared) where
       on : (tree : Option Attempt) → Tries old u x body values at tree found new → Appends (settled_by found) old new
       on None row = stays old new found (ap settled_by row.found_is) (ap (λ (s : Shared). s.setup) row.others) (ap (λ (s : Shared). s.history) row.others)
       on (Some tree) row = absurd row
-  unit_gives u x (halt.Ask (request.Spawn b vs) at) found new row = absurd row
-  unit_gives u x (halt.Ask (request.Send a vs) at) found new row = absurd row
-  unit_gives u x (halt.Ask (request.Become b vs) at) found new row = absurd row
-  unit_gives u x (halt.Ask request.SelfActor at) found new row = absurd row
-  unit_gives u x (halt.Value v) found new row = settles old u x _ found new refl refl row
+  unit_gives u x (halt.Ask (request.Spawn behaviour state) at) found new row = settles _ u x _ found new refl refl row.settles
+  unit_gives u x (halt.Ask (request.Send to args) at) found new row = settles _ u x _ found new refl refl row.settles
+  unit_gives u x (halt.Ask (request.Become behaviour state) at) found new row = on (actor_of x.kind) row
+    where
+      on : (actor : Option Name) → Becomes old u x behaviour state at actor found new → Appends (settled_by found) old new
+      on None row = ends old u _ found new refl refl row
+      on (Some actor) row = settles old u x _ found new refl refl row
+  unit_gives u x (halt.Ask request.SelfActor at) found new row = on (actor_of x.kind) row
+    where
+      on : (actor : Option Name) → Selves old u x at actor found new → Appends (settled_by found) old new
+      on None row = ends old u _ found new refl refl row
+      on (Some actor) row = settles old u x _ found new refl refl row
+  unit_gives u x (halt.Value v) found new row = on (actor_of x.kind) row
+    where
+      on : (actor : Option Name) → Finishes old u x v actor found new → Appends (settled_by found) old new
+      on None row = settles old u x _ found new refl refl row
+      on (Some actor) row = settles _ u x _ found new refl refl row.settles
   unit_gives u x (halt.Fault failed at) found new row = ends old u _ found new refl refl row
   unit_gives u x halt.Spent found new row = ends old u _ found new refl refl row
 
@@ -100,7 +120,7 @@ module _ (old : Shared) where
 
     end_gives : (u : Name) (x : Unit) (tree : Attempt) (ended : TaskEnd) (found : Given) (new : Shared) → EndGives base u x tree ended found new → Appends (settled_by found) old new
     end_gives u x tree (end.Value v) found new row =
-        adds old new found u row.found_is (ap (λ (s : Shared). s.setup) row.others ∙ setup) (ap (λ (s : Shared). s.history) row.others ∙ ap (λ es. es ++ Run u ∷ []) history)
+        adds old new found (Run u) row.found_is (ap (λ (s : Shared). s.setup) row.others ∙ setup) (ap (λ (s : Shared). s.history) row.others ∙ ap (λ es. es ++ Run u ∷ []) history)
     end_gives u x tree (end.Fault failed at) found new row = ends base u _ found new setup history row
     end_gives u x tree end.Spent found new row = ends base u _ found new setup history row
 
@@ -124,14 +144,22 @@ module _ (old : Shared) where
     after_step u x task tree went None found new row = step_gives u x task tree went found new row
     after_step u x task tree went (Some ended) found new row = root_gives u x tree ended found new row
 
-  task_gives : (u : Name) (x : Unit) (task : Name) (tree : Attempt) (machine : Option Evaluation) (found : Given) (new : Shared) → TaskGives old u x task tree machine found new
+  task_gives : (u : Name) (x : Unit) (task : Name) (tree : Attempt) (ended : Option TaskEnd) (machine : Option Evaluation) (found : Given) (new : Shared) → TaskGives old u x task tree ended machine found new
       → Appends (settled_by found) old new
-  task_gives u x task tree (Some machine) found new row = after_step _ refl refl u x task row.after row.went _ found new row.comes
-  task_gives u x task tree None found new row = root_gives old refl refl u x tree row.ended found new row.comes
+  task_gives u x task tree None (Some machine) found new row = after_step _ refl refl u x task row.after row.went _ found new row.comes
+  task_gives u x task tree None None found new row = absurd row
+  task_gives u x task tree (Some ended) machine found new row = root_gives old refl refl u x tree ended found new row
+
+  -- what an actor comes to
+  actor_gives : (a : Name) (actor : ActorState) (m : Message) (rest : List Message) (behaviour : Behaviour) (full : Bool) (found : Given) (new : Shared) → TakesIfAllowed old a actor m rest behaviour full found new
+      → Appends (settled_by found) old new
+  actor_gives a actor m rest behaviour true found new row = ends_by old (Take a m.sender) _ found new refl refl row
+  actor_gives a actor m rest behaviour false found new row = adds old new found (Take a m.sender) row.found_is (ap (λ (s : Shared). s.setup) row.others) (ap (λ (s : Shared). s.history) row.others)
 
 -- a result that is given appends just the entry that is answered
 pub gave_appends : GaveAppends
 gave_appends old new result found (gave.stale not_live is unclaimed) =
     stays old new found (ap settled_by is) (ap (λ (s : Shared). s.setup) unclaimed.rest) (ap (λ (s : Shared). s.history) unclaimed.rest)
 gave_appends old new result found (gave.unit name live row) = unit_gives old name row.unit _ found new row.gives
-gave_appends old new result found (gave.task name live row) = task_gives old row.owner row.unit name row.tree _ found new row.gives
+gave_appends old new result found (gave.task name live row) = task_gives old row.owner row.unit name row.tree _ _ found new row.gives
+gave_appends old new result found (gave.actor name live row) = actor_gives old name row.actor.state row.first row.rest row.can.behaviour _ found new row.gives

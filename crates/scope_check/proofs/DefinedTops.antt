@@ -9,20 +9,21 @@ use Rattle.value_core.specs.Place.{Spot}
 use Rattle.sugar.specs.declared.core_form.Core.{Core}
 use Rattle.core_syntax.proofs.Appends.{slice_get-append_left, slice_get-push}
 use Rattle.scope_check.specs.declared.declared.Declared.{Declared}
-use Rattle.scope_check.specs.declared.definition.Definition.{Definition}
-use Rattle.scope_check.specs.declared.definition.What.{What}
-use Rattle.scope_check.specs.declared.definition.What.TheVariants as what
+use Rattle.scope_names.specs.declared.definition.Definition.{Definition}
+use Rattle.scope_names.specs.declared.definition.What.{What}
+use Rattle.scope_names.specs.declared.definition.What.TheVariants as what
 use Rattle.scope_check.specs.declared.refusal.Refusal.{Refusal}
-use Rattle.program_plan.specs.declared.top.Top.{Top}
-use Rattle.program_plan.specs.declared.top.TopKind.{TopKind}
-use Rattle.program_plan.specs.declared.top.TopKind.TheVariants as top
+use Rattle.resolved_forms.specs.declared.top.Top.{Top}
+use Rattle.resolved_forms.specs.declared.top.TopKind.{TopKind}
+use Rattle.resolved_forms.specs.declared.top.TopKind.TheVariants as top
 use Rattle.scope_check.specs.Declaring.{nothing, taken, twice, with_function, with_behaviour, with_global, declare_shape, declare, declare_all}
+use Rattle.resolved_forms.specs.FormsInRange.{functions_behind, kind_params, kind_states, params_of, states_of}
 use Rattle.scope_check.specs.First.{first_from, first_of, sooner}
-use Rattle.scope_check.specs.Names.{defined}
-use Rattle.scope_check.specs.Shapes.{Shape, Function, Behaviour, Global, Value, Malformed, shape_of}
-use Rattle.scope_check.specs.Tops.{shaped_top, top_of, tops_of, functions_behind}
-use Rattle.scope_check.proofs.FineForms.{no_first, no_rest}
-use Rattle.program_plan.proofs.Taken.{kind_params, kind_states, params_of, states_of}
+use Rattle.scope_names.specs.Names.{defined}
+use Rattle.scope_names.specs.Shapes.{Shape, Function, Behaviour, Global, Value, Malformed, shape_of}
+use Rattle.scope_check.specs.Tops.{shaped_top, top_of, tops_of}
+use Rattle.scope_check.proofs.Ranged.{WhatRanged}
+use Rattle.scope_check.proofs.RangedForms.{no_first, no_rest}
 
 abbrev pub kind_globals : TopKind → ℕ
 kind_globals (top.Global value) = 1
@@ -35,9 +36,7 @@ globals_of (form ∷ forms) = kind_globals form.kind + globals_of forms
 
 -- what a name stands for is among functions of these parameters, behaviours of these states and so many globals
 abbrev pub IsAmong : List ℕ → List ℕ → ℕ → What → Type 0
-IsAmong params states globals (what.Function number takes) = slice_get params number ≡ Some takes
-IsAmong params states globals (what.Behaviour number state) = slice_get states number ≡ Some state
-IsAmong params states globals (what.Global number) = number < globals
+IsAmong params states globals x = WhatRanged (record { functions = params; behaviours = states; globals = globals }) x
 
 -- what was declared agrees with the forms so far
 pub record Agrees (d : Declared) (params states : List ℕ) (globals : ℕ) : Type 0 where

@@ -7,16 +7,17 @@ use Rattle.value_core.specs.Place.{Spot}
 use Rattle.sugar.specs.declared.core_form.Core.{Core}
 use Rattle.sugar.specs.declared.core_form.CoreKind.{the_lemmas}
 use Rattle.sugar.specs.declared.core_form.CoreKind.TheVariants.{Vector}
-use Rattle.program_plan.specs.declared.expr.Expr.{Expr}
-use Rattle.program_plan.specs.declared.expr.ExprKind.TheVariants.{Loop}
+use Rattle.resolved_forms.specs.declared.expr.Expr.{Expr}
+use Rattle.resolved_forms.specs.declared.expr.ExprKind.TheVariants.{Loop}
 use Rattle.scope_check.specs.declared.lets.Begun.{Begun}
 use Rattle.scope_check.specs.declared.resolver.Resolver.{Resolver}
 use Rattle.scope_check.specs.declared.stand.Stand.{Stand}
 use Rattle.scope_check.specs.Heads.{bound, formed, looping, loop_of, loop_scope, loop_stand, loop_with, loop_value}
 use Rattle.scope_check.specs.Moves.{scope_in, Begins, Gives}
-use Rattle.scope_check.specs.Names.{levels_of}
+use Rattle.scope_names.specs.Names.{levels_of}
 use Rattle.scope_check.specs.Parts.{body}
-use Rattle.scope_check.specs.Resolved.{Bound, Meaning, expr_at}
+use Rattle.scope_check.specs.Resolved.{Bound, Meaning}
+use Rattle.resolved_forms.specs.InRange.{expr_at}
 use Rattle.scope_check.specs.Scope.{Scope}
 use Rattle.scope_check.specs.Value.{meaning, meanings, vector_of}
 use Rattle.scope_check.proofs.Steps.{same_scope}

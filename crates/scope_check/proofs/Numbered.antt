@@ -3,23 +3,24 @@ use Rattle.std.proofs.Common.{◌≡◌, ◌∙◌, ℕ, suc, ◌+◌, Bool, tru
 use Rattle.std.specs.Prelude.{ℤ}
 use Rattle.value_core.specs.Place.{Spot}
 use Rattle.scope_check.specs.declared.error.ScopeKind.{ScopeKind}
-use Rattle.program_plan.specs.declared.expr.Expr.{Expr}
-use Rattle.program_plan.specs.declared.expr.ExprKind.{ExprKind}
-use Rattle.program_plan.specs.declared.expr.ExprKind.TheOpen as one
-use Rattle.program_plan.specs.declared.expr.ExprKind.TheVariants as expr
-use Rattle.program_plan.specs.declared.expr.Looping.{Looping}
-use Rattle.program_plan.specs.declared.head.Head.{Head}
-use Rattle.program_plan.specs.declared.head.Head.TheVariants as head
+use Rattle.resolved_forms.specs.declared.expr.Expr.{Expr}
+use Rattle.resolved_forms.specs.declared.expr.ExprKind.{ExprKind}
+use Rattle.resolved_forms.specs.declared.expr.ExprKind.TheOpen as one
+use Rattle.resolved_forms.specs.declared.expr.ExprKind.TheVariants as expr
+use Rattle.resolved_forms.specs.declared.expr.Looping.{Looping}
+use Rattle.resolved_forms.specs.declared.head.Head.{Head}
+use Rattle.resolved_forms.specs.declared.head.Head.TheVariants as head
 use Rattle.scope_check.specs.declared.refusal.Refusal.{Refusal}
 use Rattle.scope_check.specs.declared.rule.Rule.{Rule}
 use Rattle.scope_check.specs.declared.rule.Rule.TheVariants as rule
 use Rattle.scope_check.specs.Heads.{taking, formed}
 use Rattle.scope_check.specs.Parts.{each, made_of, applied, body, around, behind, is_none}
-use Rattle.scope_check.specs.Resolved.{Resolved, Several, Bound, Bindings, Meaning, expr_at, resolved, failed}
+use Rattle.scope_check.specs.Resolved.{Resolved, Several, Bound, Bindings, Meaning, resolved, failed}
+use Rattle.resolved_forms.specs.InRange.{expr_at}
 use Rattle.scope_check.specs.Scope.{Scope, with_stand}
 use Rattle.scope_check.specs.Tails.{part_stand}
 use Rattle.program_plan.proofs.Holding.{Follow, Follow-append}
-use Rattle.program_plan.proofs.LoopNumbers.{joined, of_loop, loop_numbers, numbers_of_kind, numbers_at, numbers_out}
+use Rattle.resolved_forms.proofs.LoopNumbers.{joined, of_loop, loop_numbers, numbers_of_kind, numbers_at, numbers_out}
 
 -- those of several expressions
 abbrev pub numbers_of_all : List Expr → List ℕ

@@ -7,27 +7,28 @@ use Rattle.sugar.specs.declared.core_form.CoreKind.{CoreKind}
 use Rattle.sugar.specs.declared.core_form.CoreKind.TheOpen as one
 use Rattle.sugar.specs.declared.core_form.CoreKind.TheFolds.{fold-CoreKind, fold-roll-Core, fold-roll-CoreKind, ind-Core, map-CoreKind}
 use Rattle.sugar.specs.declared.core_form.CoreKind.TheViews.{roll-Core, roll-CoreKind}
-use Rattle.scope_check.specs.declared.definition.Definition.{Definition}
-use Rattle.scope_check.specs.declared.definition.What.TheVariants as what
+use Rattle.scope_names.specs.declared.definition.Definition.{Definition}
+use Rattle.scope_names.specs.declared.definition.What.TheVariants as what
 use Rattle.scope_check.specs.declared.error.ScopeKind.TheVariants.{Unknown, BadForm}
-use Rattle.program_plan.specs.declared.expr.ExprKind.TheVariants as expr
-use Rattle.scope_check.specs.declared.found.Found.{Found}
-use Rattle.scope_check.specs.declared.found.Found.TheVariants as found
-use Rattle.program_plan.specs.declared.head.Head.TheVariants as head
+use Rattle.resolved_forms.specs.declared.expr.ExprKind.TheVariants as expr
+use Rattle.scope_names.specs.declared.found.Found.{Found}
+use Rattle.scope_names.specs.declared.found.Found.TheVariants as found
+use Rattle.resolved_forms.specs.declared.head.Head.TheVariants as head
 use Rattle.scope_check.specs.declared.rule.Rule.TheVariants as rule
-use Rattle.program_plan.specs.declared.top.Top.{Top}
-use Rattle.program_plan.specs.declared.top.TopKind.{TopKind}
-use Rattle.program_plan.specs.declared.top.TopKind.TheVariants as top
+use Rattle.resolved_forms.specs.declared.top.Top.{Top}
+use Rattle.resolved_forms.specs.declared.top.TopKind.{TopKind}
+use Rattle.resolved_forms.specs.declared.top.TopKind.TheVariants as top
 use Rattle.scope_check.specs.Heads.{bound_name, checked_name}
-use Rattle.scope_check.specs.Names.{made_name}
+use Rattle.scope_names.specs.Names.{made_name}
 use Rattle.scope_check.specs.Parts.{body}
 use Rattle.scope_check.specs.Resolved.{Resolved, Meaning}
 use Rattle.scope_check.specs.Scope.{Scope, binding, find_in}
-use Rattle.scope_check.specs.Shapes.{Shape, Function, Behaviour, Global, Value, Malformed, Reaction, shape_of}
-use Rattle.scope_check.specs.Tops.{TopResolved, parameters, function_top, behaviour_top, shaped_top, top_of, tops_of, top_scope, function_stand, outside, functions_behind}
+use Rattle.scope_names.specs.Shapes.{Shape, Function, Behaviour, Global, Value, Malformed, Reaction, shape_of}
+use Rattle.scope_check.specs.Tops.{TopResolved, parameters, function_top, behaviour_top, shaped_top, top_of, tops_of, top_scope, function_stand, outside}
+use Rattle.resolved_forms.specs.FormsInRange.{functions_behind}
 use Rattle.scope_check.specs.Value.{found_value, name_of, nameless, bad_kind, kind_step, core_step, meaning, meanings}
 use Rattle.program_plan.proofs.Holding.{Follow, Follow-append}
-use Rattle.program_plan.proofs.LoopNumbers.{joined, loop_numbers}
+use Rattle.resolved_forms.proofs.LoopNumbers.{joined, loop_numbers}
 use Rattle.scope_check.proofs.Numbered.{IsNumbered, MeaningNumbered, AllNumbered, none_appended, numbers-Nil, numbers-Bool, numbers-Int, numbers-Str, numbers-Kw, numbers-Local, numbers-Global, resolved_numbered, failed_numbered, formed_numbered, applied_numbered, body_numbered}
 use Rattle.scope_check.proofs.NumberedHeads.{no_loop_in_name, bound_numbered, list_numbered}
 

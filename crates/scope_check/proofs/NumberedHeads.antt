@@ -4,27 +4,27 @@ use Rattle.std.specs.Prelude.{◌==◌, ◌%◌, nat_le}
 use Rattle.value_core.specs.Place.{Spot}
 use Rattle.value_core.specs.declared.op.Op.{Op}
 use Rattle.value_core.specs.primitives.Words.{takes_of}
-use Rattle.scope_check.specs.declared.definition.What.TheVariants as what
+use Rattle.scope_names.specs.declared.definition.What.TheVariants as what
 use Rattle.scope_check.specs.declared.error.ScopeKind.TheVariants.{Unknown, Arity, BadForm}
-use Rattle.program_plan.specs.declared.expr.ExprKind.TheVariants as expr
-use Rattle.scope_check.specs.declared.found.Found.{Found}
-use Rattle.scope_check.specs.declared.found.Found.TheVariants as found
-use Rattle.program_plan.specs.declared.head.Head.{Head}
-use Rattle.program_plan.specs.declared.head.Head.TheVariants as head
+use Rattle.resolved_forms.specs.declared.expr.ExprKind.TheVariants as expr
+use Rattle.scope_names.specs.declared.found.Found.{Found}
+use Rattle.scope_names.specs.declared.found.Found.TheVariants as found
+use Rattle.resolved_forms.specs.declared.head.Head.{Head}
+use Rattle.resolved_forms.specs.declared.head.Head.TheVariants as head
 use Rattle.scope_check.specs.declared.rule.Rule.TheVariants as rule
-use Rattle.scope_check.specs.declared.special.Special.{Special}
-use Rattle.scope_check.specs.declared.special.Special.TheVariants as special
+use Rattle.scope_names.specs.declared.special.Special.{Special}
+use Rattle.scope_names.specs.declared.special.Special.TheVariants as special
 use Rattle.scope_check.specs.declared.stand.Target.{Target}
 use Rattle.scope_check.specs.declared.start.Start.{Start}
 use Rattle.scope_check.specs.declared.start.Start.TheVariants as starts
 use Rattle.scope_check.specs.Heads.{formed, bound_name, checked_name, misplaced, bound, let_of, let_in, let_with, let_value, looping, loop_of, loop_scope, loop_in, loop_with, loop_value, recur_to, exactly, start_head, started, start_of, start_value, special_value, called, op_value, word_value, headed, list_value}
-use Rattle.scope_check.specs.Ops.{op_of}
+use Rattle.scope_names.specs.Ops.{op_of}
 use Rattle.scope_check.specs.Parts.{each, applied, body}
 use Rattle.scope_check.specs.Resolved.{Bindings, Meaning}
 use Rattle.scope_check.specs.Scope.{Scope, inside, binding, find_in}
-use Rattle.scope_check.specs.Special.{special_of}
+use Rattle.scope_names.specs.Special.{special_of}
 use Rattle.program_plan.proofs.Holding.{Follow, Follow-append}
-use Rattle.program_plan.proofs.LoopNumbers.{loop_numbers}
+use Rattle.resolved_forms.proofs.LoopNumbers.{loop_numbers}
 use Rattle.scope_check.proofs.Numbered.{IsNumbered, AreNumbered, BindingsNumbered, AllNumbered, numbers_of_all, none_appended, numbers-Let, numbers-Cond, numbers-And, numbers-Or, at_kind, failed_numbered, formed_numbered, taking_numbered, made_numbered, each_numbered, applied_numbered, body_numbered, around_numbered, with_body, with_loop}
 
 -- something is wrong with a form that stands where a name has to

@@ -4,7 +4,7 @@ use Rattle.core_syntax.specs.Table.{Table}
 use Rattle.sexpr_reader.specs.declared.form.Form.{Form}
 use Rattle.program_plan.specs.declared.error.PlanNo.{PlanNo}
 use Rattle.program_plan.specs.declared.error.PlanNo.TheVariants.{Memory, Refused}
-use Rattle.program_plan.specs.declared.top.Top.{Top}
+use Rattle.resolved_forms.specs.declared.top.Top.{Top}
 use Rattle.program_plan.specs.Planned as planned
 use Rattle.program_plan.specs.Planned.{IsPlanned, IsUnplanned}
 use Rattle.scope_check.specs.Check.{IsProgram, IsRefused, unplanned, RefusedAs, scope_no, tops_in, globals_in, wrong_in}

@@ -6,17 +6,17 @@ use Rattle.core_syntax.specs.declared.node_id.NodeId.{NodeId}
 use Rattle.core_syntax.specs.Table.{Table}
 use Rattle.sexpr_reader.specs.declared.form.Form.{Form}
 use Rattle.sugar.specs.Expansion.{expanded}
-use Rattle.program_plan.specs.declared.layout.Layout.{Layout}
-use Rattle.program_plan.specs.declared.top.Top.{Top}
-use Rattle.program_plan.specs.declared.top.TopKind.{TopKind}
-use Rattle.program_plan.specs.declared.top.TopKind.TheVariants.{Global, Value, Function as Defined, Behaviour as Reacts}
+use Rattle.resolved_forms.specs.declared.layout.Layout.{Layout}
+use Rattle.resolved_forms.specs.declared.top.Top.{Top}
+use Rattle.resolved_forms.specs.declared.top.TopKind.{TopKind}
+use Rattle.resolved_forms.specs.declared.top.TopKind.TheVariants.{Global, Value, Function as Defined, Behaviour as Reacts}
 use Rattle.scope_check.specs.Check.{IsProgram, declared_in, resolved_in, tops_in}
 use Rattle.scope_check.specs.Declaring.{nothing}
 use Rattle.program_plan.specs.Lowered.{Parts, no_parts, with_root, with_top, with_tops, program_of}
 use Rattle.program_plan.specs.Made.{Draft}
 use Rattle.program_plan.specs.Planned.{layout_in}
 use Rattle.scope_check.specs.ReadBack.{MainStands, ReadsBack, ReadsTops, nothing_before}
-use Rattle.scope_check.specs.Tops.{functions_behind}
+use Rattle.resolved_forms.specs.FormsInRange.{functions_behind}
 use Rattle.program_plan.proofs.Grown.{later_loops, loops_with_all}
 use Rattle.program_plan.proofs.Holding.{Follow, HaveNumbers, numbers_behind}
 use Rattle.scope_check.proofs.NumberedForms.{top_numbers, tops_numbered}

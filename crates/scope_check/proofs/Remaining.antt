@@ -1,8 +1,8 @@
 -- What is left to do in the middle of some parts.
 use Rattle.std.proofs.Common.{◌≡◌, ℕ, List, ◌++◌, take}
-use Rattle.program_plan.specs.declared.expr.Expr.{Expr}
+use Rattle.resolved_forms.specs.declared.expr.Expr.{Expr}
 use Rattle.scope_check.specs.declared.resolver.Resolver.{Resolver}
-use Rattle.program_plan.specs.declared.top.Top.{Top}
+use Rattle.resolved_forms.specs.declared.top.Top.{Top}
 use Rattle.scope_check.specs.Resolved.{Several, Bound}
 use Rattle.scope_check.specs.Tops.{TopsResolved}
 

@@ -5,7 +5,7 @@ use Rattle.std.proofs.lemmas.List.{take-append-le, length-take, length-drop, len
 use Rattle.std.proofs.lemmas.Bool.{false_from_ne_true}
 use Rattle.std.proofs.lemmas.Bool.Decides.{Decides-eqb}
 use Rattle.sugar.specs.declared.core_form.Core.{Core}
-use Rattle.program_plan.specs.declared.expr.Expr.{Expr}
+use Rattle.resolved_forms.specs.declared.expr.Expr.{Expr}
 use Rattle.scope_check.specs.declared.resolver.Resolver.{Resolver}
 use Rattle.scope_check.specs.declared.rule.Rule.{Rule}
 use Rattle.scope_check.specs.declared.rule.Rule.TheVariants as rule

@@ -3,12 +3,13 @@ use Rattle.std.proofs.Common.{◌≡◌, ℕ, List, [], ◌∷◌, ◌++◌, ref
 use Rattle.sugar.specs.declared.core_form.Core.{Core}
 use Rattle.scope_check.specs.declared.resolver.Resolver.{Resolver}
 use Rattle.scope_check.specs.declared.stand.Stand.{Stand}
-use Rattle.program_plan.specs.declared.top.Top.{Top}
+use Rattle.resolved_forms.specs.declared.top.Top.{Top}
 use Rattle.scope_check.specs.Heads.{bound_name, checked_name}
 use Rattle.scope_check.specs.Moves.{scope_in, NamesOne, GivesTop}
 use Rattle.scope_check.specs.Resolved.{Bound, Meaning}
 use Rattle.scope_check.specs.Scope.{Scope, binding}
-use Rattle.scope_check.specs.Tops.{parameters, top_of, tops_of, functions_behind, TopsResolved}
+use Rattle.scope_check.specs.Tops.{parameters, top_of, tops_of, TopsResolved}
+use Rattle.resolved_forms.specs.FormsInRange.{functions_behind}
 use Rattle.scope_check.proofs.Remaining.{StillBinds, StillTops}
 use Rattle.scope_check.proofs.Steps.{same_scope}
 

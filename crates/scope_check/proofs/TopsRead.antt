@@ -14,12 +14,12 @@ use Rattle.core_syntax.specs.declared.step.Step.{Step}
 use Rattle.core_syntax.specs.Table.{Table, main_row, steps_of}
 use Rattle.core_syntax.proofs.Appends.{slice_get-append_left, slice_get-push}
 use Rattle.core_syntax.proofs.Tables.{node_at-main}
-use Rattle.program_plan.specs.declared.expr.Expr.{Expr}
-use Rattle.program_plan.specs.declared.layout.Layout.{Layout}
-use Rattle.program_plan.specs.declared.top.Reacting.{Reacting}
-use Rattle.program_plan.specs.declared.top.Top.{Top}
-use Rattle.program_plan.specs.declared.top.TopKind.{TopKind}
-use Rattle.program_plan.specs.declared.top.TopKind.TheVariants.{Global, Value, Function as Defined, Behaviour as Reacts}
+use Rattle.resolved_forms.specs.declared.expr.Expr.{Expr}
+use Rattle.resolved_forms.specs.declared.layout.Layout.{Layout}
+use Rattle.resolved_forms.specs.declared.top.Reacting.{Reacting}
+use Rattle.resolved_forms.specs.declared.top.Top.{Top}
+use Rattle.resolved_forms.specs.declared.top.TopKind.{TopKind}
+use Rattle.resolved_forms.specs.declared.top.TopKind.TheVariants.{Global, Value, Function as Defined, Behaviour as Reacts}
 use Rattle.program_plan.specs.Emitted.{emitted, turn_of}
 use Rattle.program_plan.specs.Frame.{Frame, frame_of, hidden_at, hidden_count}
 use Rattle.program_plan.specs.Lowered.{Parts, top_making, with_root, with_top, with_tops, program_of_parts}
@@ -29,7 +29,7 @@ use Rattle.program_plan.specs.Reads.{Reads, Stands}
 use Rattle.program_plan.proofs.Giving.{Gives, gives_node, gives_then, gives_weaker}
 use Rattle.program_plan.proofs.Grown.{IsFirst, pushed_there, Grew, grew_all, rows_there, later_loops}
 use Rattle.program_plan.proofs.Holding.{HasRows, HaveNumbers}
-use Rattle.program_plan.proofs.LoopNumbers.{loop_numbers}
+use Rattle.resolved_forms.proofs.LoopNumbers.{loop_numbers}
 use Rattle.scope_check.proofs.NumberedForms.{kind_numbers, top_numbers}
 use Rattle.program_plan.proofs.ReadingBack.{is_read}
 

@@ -8,7 +8,7 @@ use Rattle.program_plan.specs.declared.error.PlanKind.{PlanKind}
 use Rattle.program_plan.specs.declared.error.PlanKind.TheVariants as plan
 use Rattle.program_plan.specs.declared.error.PlanNo.{PlanNo}
 use Rattle.program_plan.specs.declared.error.PlanNo.TheVariants as why
-use Rattle.program_plan.specs.declared.top.Top.{Top}
+use Rattle.resolved_forms.specs.declared.top.Top.{Top}
 use Rattle.program_plan.specs.Planned.{IsPlanned, IsUnplanned}
 use Rattle.scope_check.specs.declared.checking.Found.{Found}
 use Rattle.scope_check.specs.declared.declared.Declared.{Declared}

@@ -3,14 +3,14 @@ use Rattle.std.specs.Prelude.{ℕ, ◌+◌, Bool, ◌||◌, if◌then◌else◌,
 use Rattle.value_core.specs.Place.{Spot}
 use Rattle.sugar.specs.declared.core_form.Core.{Core}
 use Rattle.scope_check.specs.declared.declared.Declared.{Declared}
-use Rattle.scope_check.specs.declared.definition.Definition.{Definition}
-use Rattle.scope_check.specs.declared.definition.What.{What}
-use Rattle.scope_check.specs.declared.definition.What.TheVariants.{Function as function_what, Behaviour as behaviour_what, Global as global_what}
+use Rattle.scope_names.specs.declared.definition.Definition.{Definition}
+use Rattle.scope_names.specs.declared.definition.What.{What}
+use Rattle.scope_names.specs.declared.definition.What.TheVariants.{Function as function_what, Behaviour as behaviour_what, Global as global_what}
 use Rattle.scope_check.specs.declared.error.ScopeKind.TheVariants.{Twice}
-use Rattle.scope_check.specs.Names.{defined}
+use Rattle.scope_names.specs.Names.{defined}
 use Rattle.scope_check.specs.Resolved.{refusal}
-use Rattle.scope_check.specs.Scope.{is_reserved}
-use Rattle.scope_check.specs.Shapes.{Shape, Function, Behaviour, Global, Value, Malformed, shape_of}
+use Rattle.scope_names.specs.Finding.{is_reserved}
+use Rattle.scope_names.specs.Shapes.{Shape, Function, Behaviour, Global, Value, Malformed, shape_of}
 
 abbrev pub nothing : Declared
 nothing = record { definitions = []; functions = 0; behaviours = 0; globals = 0; refusals = [] }

@@ -3,27 +3,28 @@ use Rattle.std.specs.Prelude.{ℕ, ◌+◌, Bool, true, false, ◌==◌, ◌%◌
 use Rattle.value_core.specs.Place.{Spot}
 use Rattle.value_core.specs.declared.op.Op.{Op}
 use Rattle.value_core.specs.primitives.Words.{takes_of}
-use Rattle.scope_check.specs.declared.definition.What.TheVariants as what
+use Rattle.scope_names.specs.declared.definition.What.TheVariants as what
 use Rattle.scope_check.specs.declared.error.ScopeKind.TheVariants.{Unknown, Arity, BadForm}
-use Rattle.program_plan.specs.declared.expr.Looping.{Looping}
-use Rattle.program_plan.specs.declared.expr.ExprKind.TheVariants as expr
-use Rattle.scope_check.specs.declared.found.Found.{Found}
-use Rattle.scope_check.specs.declared.found.Found.TheVariants as found
-use Rattle.program_plan.specs.declared.head.Head.{Head}
-use Rattle.program_plan.specs.declared.head.Head.TheVariants as head
+use Rattle.resolved_forms.specs.declared.expr.Looping.{Looping}
+use Rattle.resolved_forms.specs.declared.expr.ExprKind.TheVariants as expr
+use Rattle.scope_names.specs.declared.found.Found.{Found}
+use Rattle.scope_names.specs.declared.found.Found.TheVariants as found
+use Rattle.resolved_forms.specs.declared.head.Head.{Head}
+use Rattle.resolved_forms.specs.declared.head.Head.TheVariants as head
 use Rattle.scope_check.specs.declared.rule.Rule.TheVariants as rule
-use Rattle.scope_check.specs.declared.special.Special.{Special}
-use Rattle.scope_check.specs.declared.special.Special.TheVariants as special
+use Rattle.scope_names.specs.declared.special.Special.{Special}
+use Rattle.scope_names.specs.declared.special.Special.TheVariants as special
 use Rattle.scope_check.specs.declared.stand.Stand.{Stand}
 use Rattle.scope_check.specs.declared.stand.Target.{Target}
 use Rattle.scope_check.specs.declared.start.Start.{Start}
 use Rattle.scope_check.specs.declared.start.Start.TheVariants as starts
-use Rattle.scope_check.specs.Names.{levels_of}
-use Rattle.scope_check.specs.Ops.{op_of}
+use Rattle.scope_names.specs.Names.{levels_of}
+use Rattle.scope_names.specs.Ops.{op_of}
 use Rattle.scope_check.specs.Parts.{each, made_of, applied, body, around}
-use Rattle.scope_check.specs.Resolved.{Resolved, Bound, Bindings, Meaning, expr_at, resolved, refusal, failed}
+use Rattle.scope_check.specs.Resolved.{Resolved, Bound, Bindings, Meaning, resolved, refusal, failed}
+use Rattle.resolved_forms.specs.InRange.{expr_at}
 use Rattle.scope_check.specs.Scope.{Scope, inside, binding, with_stand, find_in}
-use Rattle.scope_check.specs.Special.{special_of}
+use Rattle.scope_names.specs.Special.{special_of}
 
 -- the expression where the number of arguments is one that is taken
 abbrev pub taking : Bool → Spot → Resolved → ℕ → Resolved

@@ -1,12 +1,12 @@
 -- What a step of the resolver does.
 use Rattle.std.specs.Prelude.{◌≡◌, ℕ, List, [], ◌∷◌, ◌++◌}
-use Rattle.program_plan.specs.declared.expr.Expr.{Expr}
+use Rattle.resolved_forms.specs.declared.expr.Expr.{Expr}
 use Rattle.scope_check.specs.declared.lets.Begun.{Begun}
 use Rattle.scope_check.specs.declared.refusal.Refusal.{Refusal}
 use Rattle.scope_check.specs.declared.resolver.Resolver.{Resolver}
 use Rattle.scope_check.specs.declared.rule.Rule.{Rule}
 use Rattle.scope_check.specs.declared.stand.Stand.{Stand}
-use Rattle.program_plan.specs.declared.top.Top.{Top}
+use Rattle.resolved_forms.specs.declared.top.Top.{Top}
 use Rattle.scope_check.specs.Heads.{looping, loop_stand}
 use Rattle.scope_check.specs.Parts.{behind}
 use Rattle.scope_check.specs.Resolved.{Resolved, Several, Bound}

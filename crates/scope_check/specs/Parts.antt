@@ -1,14 +1,15 @@
 -- Forms side by side, and bodies.
 use Rattle.std.specs.Prelude.{ℕ, suc, Bool, true, false, List, [], ◌∷◌}
 use Rattle.value_core.specs.Place.{Spot}
-use Rattle.program_plan.specs.declared.expr.Expr.{Expr}
-use Rattle.program_plan.specs.declared.expr.ExprKind.{ExprKind}
-use Rattle.program_plan.specs.declared.expr.ExprKind.TheVariants as expr
-use Rattle.program_plan.specs.declared.head.Head.{Head}
-use Rattle.program_plan.specs.declared.head.Head.TheVariants as head
+use Rattle.resolved_forms.specs.declared.expr.Expr.{Expr}
+use Rattle.resolved_forms.specs.declared.expr.ExprKind.{ExprKind}
+use Rattle.resolved_forms.specs.declared.expr.ExprKind.TheVariants as expr
+use Rattle.resolved_forms.specs.declared.head.Head.{Head}
+use Rattle.resolved_forms.specs.declared.head.Head.TheVariants as head
 use Rattle.scope_check.specs.declared.rule.Rule.{Rule}
 use Rattle.scope_check.specs.declared.rule.Rule.TheVariants as rule
-use Rattle.scope_check.specs.Resolved.{Resolved, Several, Meaning, expr_at, none, joined, resolved}
+use Rattle.scope_check.specs.Resolved.{Resolved, Several, Meaning, none, joined, resolved}
+use Rattle.resolved_forms.specs.InRange.{expr_at}
 use Rattle.scope_check.specs.Scope.{Scope, with_stand, binding}
 use Rattle.scope_check.specs.Tails.{part_stand}
 

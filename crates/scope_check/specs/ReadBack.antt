@@ -7,13 +7,13 @@ use Rattle.core_syntax.specs.declared.node_id.NodeId.{NodeId}
 use Rattle.core_syntax.specs.declared.step.Step.{Step}
 use Rattle.core_syntax.specs.Table.{Table, node_at, steps_of}
 use Rattle.sexpr_reader.specs.declared.form.Form.{Form}
-use Rattle.program_plan.specs.declared.expr.Expr.{Expr}
-use Rattle.program_plan.specs.declared.layout.Hidden.{Hidden}
-use Rattle.program_plan.specs.declared.layout.Layout.{Layout}
-use Rattle.program_plan.specs.declared.top.Reacting.{Reacting}
-use Rattle.program_plan.specs.declared.top.Top.{Top}
-use Rattle.program_plan.specs.declared.top.TopKind.{TopKind}
-use Rattle.program_plan.specs.declared.top.TopKind.TheVariants.{Global, Value, Function, Behaviour}
+use Rattle.resolved_forms.specs.declared.expr.Expr.{Expr}
+use Rattle.resolved_forms.specs.declared.layout.Hidden.{Hidden}
+use Rattle.resolved_forms.specs.declared.layout.Layout.{Layout}
+use Rattle.resolved_forms.specs.declared.top.Reacting.{Reacting}
+use Rattle.resolved_forms.specs.declared.top.Top.{Top}
+use Rattle.resolved_forms.specs.declared.top.TopKind.{TopKind}
+use Rattle.resolved_forms.specs.declared.top.TopKind.TheVariants.{Global, Value, Function, Behaviour}
 use Rattle.scope_check.specs.Check.{tops_in, globals_in}
 use Rattle.program_plan.specs.Frame.{Frame, frame_of, hidden_at, hidden_count}
 use Rattle.program_plan.specs.Planned.{Reached, layout_in}

@@ -2,9 +2,10 @@
 use Rattle.std.specs.Prelude.{ℕ, Bool, List, [], ◌∷◌, ◌++◌, Option}
 use Rattle.value_core.specs.Place.{Spot}
 use Rattle.scope_check.specs.declared.error.ScopeKind.{ScopeKind}
-use Rattle.program_plan.specs.declared.expr.Expr.{Expr}
-use Rattle.program_plan.specs.declared.expr.ExprKind.{ExprKind}
-use Rattle.program_plan.specs.declared.expr.ExprKind.TheVariants as expr
+use Rattle.resolved_forms.specs.declared.expr.Expr.{Expr}
+use Rattle.resolved_forms.specs.declared.expr.ExprKind.{ExprKind}
+use Rattle.resolved_forms.specs.declared.expr.ExprKind.TheVariants as expr
+use Rattle.resolved_forms.specs.InRange.{expr_at}
 use Rattle.scope_check.specs.declared.refusal.Refusal.{Refusal}
 use Rattle.scope_check.specs.Scope.{Scope}
 
@@ -39,9 +40,6 @@ pub record Meaning : Type 0 where
   pub name : Option (List ℕ)
   pub bindings : Option Bindings
   pub value : Scope → ℕ → Resolved
-
-abbrev pub expr_at : Spot → ExprKind → Expr
-expr_at at kind = record { at = at; kind = kind }
 
 abbrev pub nil_at : Spot → Expr
 nil_at at = expr_at at expr.Nil

@@ -1,19 +1,20 @@
 -- What the top-level forms come to.
-use Rattle.std.specs.Prelude.{ℕ, ◌+◌, false, true, List, [], ◌∷◌, ◌++◌, length, None, Some}
+use Rattle.std.specs.Prelude.{ℕ, false, true, List, [], ◌∷◌, ◌++◌, length, None, Some}
 use Rattle.value_core.specs.Place.{Spot}
 use Rattle.sugar.specs.declared.core_form.Core.{Core}
-use Rattle.scope_check.specs.declared.definition.Definition.{Definition}
+use Rattle.scope_names.specs.declared.definition.Definition.{Definition}
 use Rattle.scope_check.specs.declared.error.ScopeKind.TheVariants.{BadForm}
 use Rattle.scope_check.specs.declared.refusal.Refusal.{Refusal}
 use Rattle.scope_check.specs.declared.stand.Stand.{Stand}
-use Rattle.program_plan.specs.declared.top.Top.{Top}
-use Rattle.program_plan.specs.declared.top.TopKind.{TopKind}
-use Rattle.program_plan.specs.declared.top.TopKind.TheVariants.{Global as global_kind, Value as value_kind, Function as function_kind, Behaviour as behaviour_kind}
+use Rattle.resolved_forms.specs.declared.top.Top.{Top}
+use Rattle.resolved_forms.specs.declared.top.TopKind.{TopKind}
+use Rattle.resolved_forms.specs.declared.top.TopKind.TheVariants.{Global as global_kind, Value as value_kind, Function as function_kind, Behaviour as behaviour_kind}
+use Rattle.resolved_forms.specs.FormsInRange.{functions_behind}
 use Rattle.scope_check.specs.Heads.{bound_name, checked_name}
 use Rattle.scope_check.specs.Parts.{body}
 use Rattle.scope_check.specs.Resolved.{Resolved, Bound, Meaning, nil_at, refusal}
 use Rattle.scope_check.specs.Scope.{Scope, binding}
-use Rattle.scope_check.specs.Shapes.{Shape, Function, Behaviour, Global, Value, Malformed, Reaction, shape_of}
+use Rattle.scope_names.specs.Shapes.{Shape, Function, Behaviour, Global, Value, Malformed, Reaction, shape_of}
 use Rattle.scope_check.specs.Value.{meaning, meanings}
 
 -- a form, the number of the next loop, and what is wrong
@@ -92,11 +93,6 @@ shaped_top Malformed form number definitions loops = malformed_top form.at loops
 -- a form, with the number of the next function
 abbrev pub top_of : Core → ℕ → List Definition → ℕ → TopResolved
 top_of form number definitions loops = shaped_top (shape_of form) form number definitions loops
-
--- the number of the function behind a form
-abbrev pub functions_behind : TopKind → ℕ → ℕ
-functions_behind (function_kind takes inner) number = number + 1
-functions_behind _ number = number
 
 abbrev pub first_top : TopResolved → TopsResolved → TopsResolved
 first_top first rest = record { tops = first.top ∷ rest.tops; loops = rest.loops; refusals = first.refusals ++ rest.refusals }

@@ -6,17 +6,17 @@ use Rattle.sugar.specs.declared.core_form.BadKind.TheVariants as bad
 use Rattle.sugar.specs.declared.core_form.Core.{Core}
 use Rattle.sugar.specs.declared.core_form.CoreKind.TheOpen as one
 use Rattle.sugar.specs.declared.core_form.CoreKind.TheFolds.{fold-Core}
-use Rattle.scope_check.specs.declared.definition.What.TheVariants as what
+use Rattle.scope_names.specs.declared.definition.What.TheVariants as what
 use Rattle.scope_check.specs.declared.error.ScopeKind.{ScopeKind}
 use Rattle.scope_check.specs.declared.error.ScopeKind.TheVariants.{Unknown, Arity, BadForm}
-use Rattle.program_plan.specs.declared.expr.ExprKind.{ExprKind}
-use Rattle.program_plan.specs.declared.expr.ExprKind.TheVariants as expr
-use Rattle.scope_check.specs.declared.found.Found.{Found}
-use Rattle.scope_check.specs.declared.found.Found.TheVariants as found
-use Rattle.program_plan.specs.declared.head.Head.TheVariants as head
+use Rattle.resolved_forms.specs.declared.expr.ExprKind.{ExprKind}
+use Rattle.resolved_forms.specs.declared.expr.ExprKind.TheVariants as expr
+use Rattle.scope_names.specs.declared.found.Found.{Found}
+use Rattle.scope_names.specs.declared.found.Found.TheVariants as found
+use Rattle.resolved_forms.specs.declared.head.Head.TheVariants as head
 use Rattle.scope_check.specs.declared.rule.Rule.TheVariants as rule
 use Rattle.scope_check.specs.Heads.{bindings_of, formed, list_value}
-use Rattle.scope_check.specs.Names.{made_name}
+use Rattle.scope_names.specs.Names.{made_name}
 use Rattle.scope_check.specs.Parts.{applied}
 use Rattle.scope_check.specs.Resolved.{Resolved, Meaning, resolved, failed}
 use Rattle.scope_check.specs.Scope.{Scope, find_in}

@@ -1,16 +1,18 @@
-ghost use Rattle.std.specs.Prelude.{IfOk, IfErr};
+ghost use Rattle.std.specs.Prelude.{◌≡◌, IfOk, IfErr, None};
 ghost use Rattle.core_syntax.specs.Fits.{IsFitting};
+ghost use Rattle.resolved_forms.specs.FormsInRange.{FormsInRange};
 ghost use Rattle.value_core.specs.primitives.Words.{takes_of};
 ghost use Rattle.scope_check.specs.Check.{IsFound, IsProgram, IsRefused, RefusedAs};
 
 use crate::declared::{Declared, declare_all};
 use crate::error::{ScopeNo, refused, scope_no};
 use crate::first::first;
-use crate::locals::Locals;
 use crate::refusal::Refusal;
 use crate::resolver::Resolver;
 use core_syntax::Program;
-use program_plan::{TopForms, plan};
+use program_plan::plan;
+use resolved_forms::TopForms;
+use scope_names::Locals;
 use sexpr_reader::Forms;
 use std::alloc::{AllocError, Global};
 use sugar::expand;
@@ -48,8 +50,10 @@ pub fn check(alloc: Global, forms: &Forms) -> Result<Program, ScopeNo>
     }
 }
 
+/// What is found in the forms of a source. Where nothing is wrong with them, what they come to is in range.
 fn resolve(alloc: Global, forms: &Forms) -> Result<Found, AllocError>
-    ensures { IfOk result (IsFound forms.now) }
+    ensures found { IfOk result (IsFound forms.now) }
+    ensures in_range { IfOk result (λ found. found.wrong ≡ None → FormsInRange found.tops found.globals) }
 {
     let cores = expand(alloc, forms)?;
     let Declared {

@@ -1,14 +1,11 @@
 ghost use Rattle.std.specs.Prelude.{◌≡◌, ◌+◌, if◌then◌else◌, IfOk, OnOk, [], ◌∷◌, ◌++◌, length};
 ghost use Rattle.scope_check.specs.Declaring.{declare, declare_all, declare_shape, taken, twice, with_function, with_behaviour, with_global, nothing};
-ghost use Rattle.scope_check.specs.Scope.{is_reserved};
+ghost use Rattle.scope_names.specs.Finding.{is_reserved};
 
-use crate::definition::What;
 use crate::error::ScopeKind;
-use crate::names::Names;
 use crate::refusal::{Refusal, Refusals};
-use crate::resolver::is_reserved;
-use crate::shape::{Shape, shape_of};
 use core_syntax::{as_number, sum_of};
+use scope_names::{Names, Shape, What, is_reserved, shape_of};
 use std::alloc::{AllocError, Global};
 use sugar::{Core, Tops};
 use value_core::lists::add;

@@ -2,7 +2,7 @@ ghost use Rattle.std.specs.Prelude.{◌≡◌, ◌+◌, [], ◌∷◌, ◌++◌,
 ghost use Rattle.scope_check.specs.Heads.{bound, bound_name, checked_name, let_value, let_with, let_in, loop_value, loop_with, loop_in, loop_stand, bindings_of};
 ghost use Rattle.scope_check.specs.Moves.{Begins, Gives, BindsAll, BindsOne, NamesOne, scope_in};
 ghost use Rattle.scope_check.specs.Parts.{body};
-ghost use Rattle.scope_check.specs.Resolved.{expr_at};
+ghost use Rattle.resolved_forms.specs.InRange.{expr_at};
 ghost use Rattle.scope_check.specs.Scope.{inner};
 ghost use Rattle.scope_check.specs.Value.{meaning, meanings};
 
@@ -10,7 +10,7 @@ use crate::error::ScopeKind;
 use crate::resolver::{Resolver, expr_at};
 use crate::stand::{Stand, Target};
 use core_syntax::as_number;
-use program_plan::{Expr, ExprKind, Exprs, Looping};
+use resolved_forms::{Expr, ExprKind, Exprs, Looping};
 use std::alloc::AllocError;
 use sugar::{Core, CoreKind};
 use value_core::lists::add;

@@ -3,20 +3,14 @@
 
 mod checking;
 mod declared;
-mod definition;
 mod error;
 mod first;
-mod found;
 mod laws;
 mod lets;
 mod lists;
-mod locals;
-mod names;
 mod refusal;
 mod resolver;
 mod rule;
-mod shape;
-mod special;
 mod stand;
 mod start;
 mod tops;

@@ -2,25 +2,24 @@ ghost use Rattle.std.specs.Prelude.{◌≡◌, [], ◌∷◌, ◌++◌, Some, If
 ghost use Rattle.scope_check.specs.Heads.{list_value, headed, word_value, op_value, called, special_value, exactly, recur_to, start_value, start_of, started, misplaced, taking};
 ghost use Rattle.scope_check.specs.Moves.{Gives, scope_in};
 ghost use Rattle.scope_check.specs.Parts.{applied, around, body};
-ghost use Rattle.scope_check.specs.Ops.{op_of};
-ghost use Rattle.scope_check.specs.Scope.{find, find_in, inner};
-ghost use Rattle.scope_check.specs.Special.{special_of};
+ghost use Rattle.scope_names.specs.Ops.{op_of};
+ghost use Rattle.scope_check.specs.Scope.{find_in, inner};
+ghost use Rattle.scope_names.specs.Finding.{find};
+ghost use Rattle.scope_names.specs.Special.{special_of};
 ghost use Rattle.scope_check.specs.Value.{meaning, meanings};
 
-use crate::definition::What;
 use crate::error::ScopeKind;
-use crate::found::Found;
-use crate::resolver::{Resolver, expr_at};
+use crate::resolver::{Resolver, expr_at, go_by_turns};
 use crate::rule::Rule;
-use crate::special::{Special, special_named};
 use crate::stand::Stand;
 use crate::start::Start;
-use program_plan::{Expr, ExprKind, Exprs, Head};
+use resolved_forms::{Expr, ExprKind, Exprs, Head};
+use scope_names::{Found, Special, What, op_with, special_named};
 use std::alloc::AllocError;
 use sugar::Core;
+use value_core::Place;
 use value_core::lists::add;
-use value_core::{Op, Place};
-use value_ops::{op_named, takes};
+use value_ops::takes;
 
 impl Resolver {
     /// What a list comes to.
@@ -183,7 +182,7 @@ impl Resolver {
     fn cond(&mut self, at: Place, parts: &[Core], stand: Stand) -> Result<Expr, AllocError>
         ensures { IfOk result (Gives self.old self.new (special_value Special.Cond at (meanings parts.now) (scope_in self.old stand) self.old.loops)) }
     {
-        if parts.len() % 2 != 0 {
+        if !go_by_turns(parts) {
             return self.fail(ScopeKind::BadForm, at);
         }
         let exprs = self.each(Rule::Results, parts, stand)?;
@@ -267,11 +266,4 @@ impl Resolver {
             _ => self.fail(ScopeKind::BadForm, place),
         }
     }
-}
-
-// The primitive that has this word.
-pub fn op_with(word: &[u8]) -> Option<Op>
-    ensures { result ≡ op_of word.now }
-{
-    op_named(word)
 }

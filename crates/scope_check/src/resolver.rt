@@ -1,26 +1,23 @@
-ghost use Rattle.std.specs.Prelude.{◌≡◌, ◌+◌, [], ◌∷◌, ◌++◌, length, Some, IfOk, OnOk};
+ghost use Rattle.std.specs.Prelude.{◌≡◌, ◌+◌, ◌%◌, ◌==◌, [], ◌∷◌, ◌++◌, length, Some, IfOk, OnOk};
 ghost use Rattle.scope_check.specs.Heads.{formed, misplaced};
 ghost use Rattle.scope_check.specs.Moves.{Gives, GivesAll, Moves, Passes, scope_in};
-ghost use Rattle.scope_check.specs.Names.{defined, made_name};
+ghost use Rattle.scope_names.specs.Names.{defined, made_name};
 ghost use Rattle.scope_check.specs.Parts.{each, applied, body, around};
-ghost use Rattle.scope_check.specs.Resolved.{expr_at, nil_at, resolved, failed, refusal};
-ghost use Rattle.scope_check.specs.Scope.{find, found_reserved, is_reserved};
+ghost use Rattle.scope_check.specs.Resolved.{nil_at, resolved, failed, refusal};
+ghost use Rattle.resolved_forms.specs.InRange.{expr_at};
+ghost use Rattle.scope_names.specs.Finding.{find, found_reserved, is_reserved};
 ghost use Rattle.scope_check.specs.Value.{meaning, meanings, found_value, map_of, bad_kind};
 
-use crate::definition::What;
 use crate::error::ScopeKind;
-use crate::found::Found;
-use crate::lists::op_with;
-use crate::locals::Locals;
-use crate::names::Names;
 use crate::refusal::{Refusal, Refusals};
 use crate::rule::Rule;
 use crate::stand::Stand;
 use core_syntax::sum_of;
 use itoa::Buffer;
-use program_plan::{Expr, ExprKind, Exprs, Head};
+use resolved_forms::{Expr, ExprKind, Exprs, Head};
+use scope_names::{Found, Locals, Names, What, find};
 use std::alloc::{AllocError, Global};
-use sugar::{BadKind, Core, CoreKind, is_form_word};
+use sugar::{BadKind, Core, CoreKind};
 use value_core::lists::add;
 use value_core::{Place, Text};
 
@@ -80,27 +77,10 @@ impl Resolver {
     }
 
     /// What the name stands for here.
-    #[tactic(auto, unfolding(crate::specs::Scope::find))]
     pub fn find(&self, name: &[u8]) -> Found
         ensures { result ≡ find self.now.definitions self.now.locals name.now }
     {
-        match self.locals.find(name) {
-            Some(level) => Found::Local(level),
-            None => self.find_outside(name),
-        }
-    }
-
-    // What the name stands for where it is no local.
-    fn find_outside(&self, name: &[u8]) -> Found
-        ensures { result ≡ found_reserved (is_reserved name.now) (defined self.now.definitions name.now) }
-    {
-        if is_reserved(name) {
-            return Found::Reserved;
-        }
-        match self.definitions.find(name) {
-            Some(what) => Found::Defined(what),
-            None => Found::Nothing,
-        }
+        find(&self.definitions, &self.locals, name)
     }
 
     /// The name that a core form is, if it is one.
@@ -119,7 +99,7 @@ impl Resolver {
     fn map(&mut self, at: Place, parts: &[Core], stand: Stand) -> Result<Expr, AllocError>
         ensures { IfOk result (Gives self.old self.new ((map_of (meanings parts.now) at).value (scope_in self.old stand) self.old.loops)) }
     {
-        if parts.len() % 2 != 0 {
+        if !go_by_turns(parts) {
             return self.fail(ScopeKind::BadForm, at);
         }
         self.applied(Head::Map, Rule::Plain, at, parts, stand)
@@ -216,6 +196,13 @@ pub fn nil_at(at: Place) -> Expr
     expr_at(at, ExprKind::Nil)
 }
 
+/// Whether the parts go by turns, as keys and values do, or tests and results.
+pub fn go_by_turns(parts: &[Core]) -> bool
+    ensures { result ≡ (length parts.now % 2 == 0) }
+{
+    parts.len() % 2 == 0
+}
+
 fn bad_kind(kind: BadKind) -> ScopeKind
     ensures { result ≡ bad_kind kind }
 {
@@ -223,13 +210,6 @@ fn bad_kind(kind: BadKind) -> ScopeKind
         BadKind::Arity => ScopeKind::Arity,
         BadKind::BadForm => ScopeKind::BadForm,
     }
-}
-
-// Whether the word is that of a form or a primitive.
-pub fn is_reserved(word: &[u8]) -> bool
-    ensures { result ≡ is_reserved word.now }
-{
-    is_form_word(word) || op_with(word).is_some()
 }
 
 // The name of a made local.

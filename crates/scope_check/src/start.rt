@@ -1,7 +1,7 @@
 ghost use Rattle.std.specs.Prelude.{◌≡◌};
 ghost use Rattle.scope_check.specs.Heads.{start_head};
 
-use program_plan::Head;
+use resolved_forms::Head;
 
 /// What is done with a behaviour.
 #[derive(Clone, Copy, Debug, PartialEq, Eq)]

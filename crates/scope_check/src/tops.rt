@@ -1,16 +1,17 @@
 ghost use Rattle.std.specs.Prelude.{◌≡◌, [], ◌∷◌, ◌++◌, length, IfOk};
 ghost use Rattle.scope_check.specs.Heads.{bound_name, checked_name};
 ghost use Rattle.scope_check.specs.Moves.{Bears, GivesTop, GivesTops, scope_in};
-ghost use Rattle.scope_check.specs.Shapes.{reaction_now};
-ghost use Rattle.scope_check.specs.Tops.{parameters, function_top, behaviour_top, global_top, value_top, malformed_top, top_of, tops_of, top_at, functions_behind, function_stand, outside};
+ghost use Rattle.scope_names.specs.Shapes.{reaction_now};
+ghost use Rattle.scope_check.specs.Tops.{parameters, function_top, behaviour_top, global_top, value_top, malformed_top, top_of, tops_of, top_at, function_stand, outside};
+ghost use Rattle.resolved_forms.specs.FormsInRange.{functions_behind};
 ghost use Rattle.scope_check.specs.Value.{meaning, meanings};
 
 use crate::error::ScopeKind;
 use crate::resolver::{Resolver, nil_at};
-use crate::shape::{Reaction, Shape, shape_of};
 use crate::stand::{Stand, Target};
 use core_syntax::{as_number, sum_of};
-use program_plan::{Reacting, Top, TopForms, TopKind};
+use resolved_forms::{Reacting, Top, TopForms, TopKind};
+use scope_names::{Reaction, Shape, shape_of};
 use std::alloc::AllocError;
 use sugar::Core;
 use value_core::Place;
@@ -132,9 +133,16 @@ fn push_top(tops: &mut TopForms, top: Top, number: u32) -> Result<u32, AllocErro
     ensures tops { IfOk result (λ _. tops.new ≡ tops.old ++ top ∷ []) }
     ensures next { IfOk result (λ next. next ≡ functions_behind top.kind number) }
 {
-    let next = functions_behind(&top.kind, number)?;
-    add(tops, top)?;
-    Ok(next)
+    match functions_behind(&top.kind, number) {
+        Ok(next) => {
+            add(tops, top)?;
+            Ok(next)
+        }
+        Err(error) => {
+            drop(top);
+            Err(error)
+        }
+    }
 }
 
 fn top_at(at: Place, kind: TopKind) -> Top

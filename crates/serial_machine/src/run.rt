@@ -42,6 +42,8 @@ impl Now {
         match end {
             TaskEnd::Value(value) => {
                 if value.holds_future() {
+                    drop(value);
+                    drop(task);
                     self.fail(alloc, name, Code::FutureEscapes, at)?;
                 } else {
                     self.commit(alloc, name, task.log, value)?;
@@ -49,14 +51,19 @@ impl Now {
                 Ok(true)
             }
             TaskEnd::Fault(code, place) => {
+                drop(task);
                 self.fail(alloc, name, code, place)?;
                 Ok(true)
             }
             TaskEnd::Spent => {
+                drop(task);
                 self.spend(alloc, name)?;
                 Ok(true)
             }
-            TaskEnd::Blocked => Ok(false),
+            TaskEnd::Blocked => {
+                drop(task);
+                Ok(false)
+            }
         }
     }
 

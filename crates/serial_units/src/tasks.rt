@@ -236,7 +236,9 @@ impl Tasks {
             (task (around_of around.now) levels name.now body values (view_of (with_top self.old.below.items self.old.top)) known)) }
     {
         let mut machine = Machine::start(alloc, body, values, true, around.fuel)?;
-        self.run_above(alloc, around, levels, name, &mut machine)
+        let done = self.run_above(alloc, around, levels, name, &mut machine);
+        drop(machine);
+        done
     }
 
     /// Runs a child of that name, which the machine evaluates, above the running task.

@@ -27,7 +27,9 @@ pub fn transact(
     ensures log { IfOk result (λ done. done.task.log ≡ (root_task (around_of around.now) name body values).log) }
 {
     let mut machine = Machine::start(alloc, body, values, true, around.fuel)?;
-    root(alloc, around, name, &mut machine)
+    let done = root(alloc, around, name, &mut machine);
+    drop(machine);
+    done
 }
 
 /// The root task, which the machine evaluates, with 16 levels of forks below it.

@@ -126,7 +126,13 @@ fn begin(
     ensures put { OnOk result (all.new.entries ≡ with_named all.old.entries name unit) }
     ensures marked { HasJust is_unfinished unfinished.new all.new.entries }
 {
-    let marked = mark(unfinished, alloc, &name)?;
+    let marked = match mark(unfinished, alloc, &name) {
+        Ok(marked) => marked,
+        Err(error) => {
+            drop(unit);
+            return Err(error);
+        }
+    };
     match put(all, name, unit) {
         Ok(()) => Ok(()),
         Err(error) => {

@@ -2,13 +2,14 @@ ghost use Rattle.std.specs.Prelude.{◌≡◌, [], OnErr, OnOk, IfOk, option_cop
 ghost use Rattle.shared_map.specs.Trees.{tree_items};
 ghost use Rattle.value_core.specs.Named.{Rises, named, with_named};
 
+use crate::in_order::push_all;
 use crate::node::{Entry, Node, share};
 use crate::putting::with_entry;
 use std::alloc::{AllocError, Global};
 use std::cmp::Ordering;
 use std::marker::Model;
 use std::sync::Arc;
-use value_core::Name;
+use value_core::{Copied, Name};
 
 /// A map by name whose copies share its entries: a copy takes no memory, and what is put takes a node for each step down to
 /// its place. Contracts see the entries in after-order.
@@ -66,6 +67,17 @@ impl<V: Drop> SharedMap<V> {
         ensures { option_copied result ≡ named name.now self.now }
     {
         found(&self.root, name)
+    }
+}
+
+impl<V: Copied> SharedMap<V> {
+    /// Equal entries, in after-order.
+    pub fn entries(&self) -> Result<Vec<(Name, V)>, AllocError>
+        ensures { IfOk result (λ entries. entries.items ≡ self.now) }
+    {
+        let mut entries = Vec::new(self.alloc);
+        push_all(self.alloc, &mut entries, &self.root)?;
+        Ok(entries)
     }
 }
 

@@ -8,6 +8,7 @@ use Rattle.serial_model.specs.declared.request.Request.TheVariants as request
 use Rattle.serial_model.specs.State.{UnitState}
 use Rattle.serial_model.specs.Step.{next_made, next_of}
 use Rattle.shared_world.proofs.Live.{no-piece}
+use Rattle.shared_world.proofs.ActorPieces.{SameActors, actor_of_piece, actors-put, actors-set, unit-no-actor}
 use Rattle.shared_world.proofs.Standing.{now-is-newest, under-way}
 use Rattle.shared_world.proofs.States.{SameStates, machines-put, machines-set, task-put, unit-set}
 use Rattle.shared_world.proofs.Units.{IsHere}
@@ -68,7 +69,7 @@ module _ (old : Shared) (st : Stands old) (u : Name) (x : Unit) (here : IsHere o
       history = st.seen.history;
       refs = st.seen.refs;
       units = λ q. st.seen.units q ∙ sym (ap (option_map still) (same q));
-      actors = st.seen.actors;
+      actors = λ a. st.seen.actors a ∙ sym (same_actors a);
       taken = st.seen.taken;
       mails = st.seen.mails;
       attempts = λ go v. subst (λ f. AttemptSeen old.versions f (cond (same_name v u) (Some tried) (w.attempts v))) (sym (named-with_named v u r.tree old.attempts)) (seen v (same_name v u));
@@ -80,6 +81,7 @@ module _ (old : Shared) (st : Stands old) (u : Name) (x : Unit) (here : IsHere o
         (machines-put (IsMachine old.setup) (next_made u unit) (Some (piece.Task (mark.Ready work.Eval))) old.board r.board (λ z e. cc) r.root st.machines);
     attempts = λ go v tree there. way v tree (same_name v u) refl (sym (named-with_named v u r.tree old.attempts) ∙ there);
     numbers = st.numbers;
+    definite = st.definite;
   })
     where
       going : is_going old.end ≡ true
@@ -100,6 +102,13 @@ module _ (old : Shared) (st : Stands old) (u : Name) (x : Unit) (here : IsHere o
           on : (c : Bool) → same_name q u ≡ c → cond c (Some (unit_state r.waits.unit)) (state_at r.board q) ≡ state_at r.board q
           on true e = ap (λ k. Some k) r.waits.stands.state ∙ sym (ap (state_at r.board) (same_name-equal q u e) ∙ kept)
           on false e = refl
+
+      same_actors : SameActors old.board new.board
+      same_actors a =
+          actors-set u (piece.Unit r.waits.unit) waiting r.board new.board refl (put u ∙ unit-no-actor old.board u unit here.there) r.waits.set a ∙ put a
+        where
+          put : SameActors old.board r.board
+          put = actors-put (next_made u unit) (Some (piece.Task (mark.Ready work.Eval))) old.board r.board (sym (ap actor_of_piece r.none)) r.root
 
       new-seen : IsSeenAttempt old.versions r.tree tried
       new-seen = record {

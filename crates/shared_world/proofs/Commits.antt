@@ -1,8 +1,9 @@
 -- An attempt whose root is at its end keeps what is kept standing: it commits, or ends the run.
-use Rattle.std.proofs.Common.{◌≡◌, ◌∙◌, ◌≤◌, ℕ, suc, Bool, true, false, cond, length, length-append, drop, List, [], ◌∷◌, ◌++◌, inr, refl, sym, ap, subst, arith}
+use Rattle.std.proofs.Common.{◌≡◌, ◌∙◌, ◌≤◌, ℕ, suc, Bool, true, false, cond, append-nil, length, length-append, List, [], ◌∷◌, ◌++◌, inr, refl, sym, ap, ap₂, subst, arith}
 use Rattle.std.specs.Option.{option_and_then, option_map, option_or}
 use Rattle.std.specs.Prelude.{Option, None, Some, All, Contains, IfSome, is_some, map}
 use Rattle.actor_mailbox.specs.Messages.{settle}
+use Rattle.actor_mails.specs.Mails.{mail_at}
 use Rattle.ref_store.proofs.StoreLaws.{above_committed, above_pruned, read_below}
 use Rattle.ref_store.specs.declared.version.Version.{Version}
 use Rattle.ref_store.specs.Store.{IsAbove, committed, versions_of}
@@ -12,18 +13,22 @@ use Rattle.serial_model.specs.declared.end.End.TheVariants as ending
 use Rattle.serial_model.specs.declared.entry.Entry.TheVariants.{Run}
 use Rattle.serial_model.specs.declared.halt.Halt.TheVariants as halt
 use Rattle.serial_model.specs.declared.request.Request.TheVariants as request
+use Rattle.serial_model.specs.Sends.{effects_to}
 use Rattle.serial_model.specs.Standing.{Agrees, Start}
 use Rattle.serial_model.specs.State.{UnitState}
 use Rattle.serial_model.specs.Step.{answered, next_made, next_of, with_made}
 use Rattle.serial_model.specs.Task as outcome
-use Rattle.serial_model.specs.Task.{Around, Result, transaction}
-use Rattle.shared_world.proofs.Effects.{ArePrints, HasDoneLocally, done-locally, drop-nothing, no-actors, no-becoming, no-sends, prints, with_effects}
-use Rattle.shared_world.proofs.Gone.{SeenAs, go-machines, go-same, now-stays, reads-stay, seen-as, seen-stay, stayed}
+use Rattle.serial_model.specs.Task.{Result, transaction}
+use Rattle.shared_world.proofs.ActorPieces.{actor_of_piece}
+use Rattle.shared_world.proofs.Effects.{act-actors, act-machines, act-states, spawned-over}
+use Rattle.shared_world.proofs.Gone.{SeenAs, go-actors, go-machines, go-same, now-stays, reads-stay, seen-as, seen-stay, stayed}
 use Rattle.shared_world.proofs.Lists.{among-contains, named-among, names_of, none-there, over-read, values-all, values-so, values_of}
 use Rattle.shared_world.proofs.Live.{state-there}
+use Rattle.shared_world.proofs.Sent.{AreDefinite, HasDoneLocally, HasPut, done-locally, mail-settles, none-unsettled, put-none, put_of, settled-definite, with_effects}
 use Rattle.shared_world.proofs.Standing.{Grows, ref-committed, under-way}
 use Rattle.shared_world.proofs.States.{machines-same, same-pieces}
 use Rattle.shared_world.specs.declared.given.Given.{Given}
+use Rattle.shared_world.specs.rows.Actors.{spawned}
 use Rattle.shared_world.specs.rows.Attempts.{Commits}
 use Rattle.shared_world.specs.rows.Pieces.{Ends}
 use Rattle.shared_world.specs.rows.Tasks.{EndGives}
@@ -39,7 +44,7 @@ use Rattle.txn_commit.specs.Conflict.{IsUnchanged}
 use Rattle.txn_snapshot.specs.SnapshotAnswer.{snapshot_of}
 use Rattle.txn_snapshot.specs.SnapshotTask.{SnapshotTask}
 use Rattle.ref_store.proofs.VersionLaws.{late_at}
-use Rattle.unit_table.specs.Board.{unit_at}
+use Rattle.unit_table.specs.Board.{actor_at, unit_at}
 use Rattle.unit_table.specs.declared.record.Record.{Record}
 use Rattle.unit_table.specs.declared.unit.Unit.{Unit}
 use Rattle.value_core.proofs.NamedLaws.{same_name-equal, same_name-itself}
@@ -57,8 +62,8 @@ use Rattle.world_model.specs.rows.Endings as end_row
 use Rattle.world_model.specs.rows.Endings.{EndsRun, ended_by}
 use Rattle.world_model.specs.StandsFor.{AttemptStands, IsAttempt, IsEnd}
 use Rattle.world_model.specs.World as world
-use Rattle.world_model.specs.World.{AttemptEnd, LiveUnit, World, attempt_sends, held_sends, kept_sends, line, sends, still, with_at}
-use Rattle.world_model.specs.Message.{tentative, unsettled}
+use Rattle.world_model.specs.World.{AttemptEnd, LiveUnit, World, still, with_at}
+use Rattle.world_model.specs.Message.{settled, unsettled}
 use Rattle.serial_model.specs.Log.{Log}
 use Rattle.unit_table.specs.Piece.{unit_in}
 
@@ -67,7 +72,7 @@ unchanged-reads : (versions : Named (List Version)) (snapshot : ℕ) (r : Name) 
 unchanged-reads versions snapshot r is = sym (ap (option_map (λ (v : Version). v.value)) (late_at snapshot (versions_of versions r) is))
 
 module _ (old : Shared) (st : Stands old) (on_going : old.end ≡ None) (u : Name) (x : Unit) (tree : Attempt) (unit_there : unit_at old.board u ≡ Some x) (there : named u old.attempts ≡ Some tree)
-    (ended : TaskEnd) (is_ended : end_at tree ≡ Some ended) (valid : All (IsUnchanged old.versions tree.snapshot) tree.reads) (effects : List Effect) (writes : Named Value) (are_prints : ArePrints effects)
+    (ended : TaskEnd) (is_ended : end_at tree ≡ Some ended) (valid : All (IsUnchanged old.versions tree.snapshot) tree.reads) (effects : List Effect) (writes : Named Value)
     (so : (v : Value) → outcome_of ended ≡ outcome.Value v → (t : Task) → named tree.root tree.tasks ≡ Some t → (t.log.log.writes ≡ writes) × (t.log.log.effects ≡ effects)) where
   abbrev w : World
   w = st.world
@@ -140,8 +145,19 @@ module _ (old : Shared) (st : Stands old) (on_going : old.end ≡ None) (u : Nam
   abbrev w2 : World
   w2 = with_attempt w1 u tried2
 
-  did : HasDoneLocally w u tried effects w1
-  did = done-locally w u tried effects are_prints seen.there seen.is.ended
+  -- no message waits that is not settled
+  put : HasPut w u unit tried
+  put = record {
+    live = live;
+    attempt = seen.there;
+    in_line = λ b.
+        ap₂ (λ taken mails. unsettled u (taken ++ mails)) (st.seen.taken b) (st.seen.mails b)
+        ∙ none-unsettled u (mail_at old.mails b) (st.definite b)
+        ∙ sym (ap (λ es. put_of u tried.root (w.actors b) (effects_to b es)) seen.is.effects ∙ put-none u tried.root (w.actors b));
+  }
+
+  did : HasDoneLocally w u unit tried effects w1
+  did = done-locally w u unit tried effects put seen.is.ended
 
   is_w1 : IsWorld old.setup w1
   is_w1 = gave-keeps old.setup st.formed w w1 None st.is_world (row.goes_on u tried effects seen.there)
@@ -193,7 +209,7 @@ module _ (old : Shared) (st : Stands old) (on_going : old.end ≡ None) (u : Nam
   learns : Learns old.setup w1 u (still unit) tried1 tree.reads joined (Some result)
   learns = record {
     there = units1 u ∙ live;
-    attempt = did.attempt;
+    attempt = did.put.attempt;
     stays = λ r has. absurd (none-there r (subst (λ all. Contains all r) seen.is.reads has));
     over = λ f v has. inr (finished f v (values-so (finished_at old.board) names f v has));
     end = is_end;
@@ -225,9 +241,9 @@ module _ (old : Shared) (st : Stands old) (on_going : old.end ≡ None) (u : Nam
       unchanged : (r : Name) → Contains tree.reads r → IsUnchanged old.versions tree.snapshot r
       unchanged r has = subst (IsUnchanged old.versions tree.snapshot) has.2 (valid has.0 r has.1)
 
-  -- the run ends by the attempt
-  ends-run : (e : End) (found : Given) (new : Shared) → Ends old u e found new → EndsRun old.setup w2 (Run u) e → Stands new
-  ends-run e found new r end_so = subst Stands (sym r.others) (record {
+  -- the run ends by the attempt, which has done nothing
+  ends-run : effects ≡ [] → (e : End) (found : Given) (new : Shared) → Ends old u e found new → EndsRun old.setup w2 (Run u) e → Stands new
+  ends-run none e found new r end_so = subst Stands (sym r.others) (record {
     formed = st.formed;
     world = ended_by w2 (Run u) e;
     is_world = gave-keeps old.setup st.formed w2 (ended_by w2 (Run u) e) (Some (Run u)) is_w2 (row.ends (Run u) e end_so);
@@ -235,9 +251,9 @@ module _ (old : Shared) (st : Stands old) (on_going : old.end ≡ None) (u : Nam
       history = ap (λ (k : World). k.history ++ Run u ∷ []) did.rest ∙ ap (λ h. h ++ Run u ∷ []) st.seen.history;
       refs = λ q. ap (λ (k : World). k.refs q) did.rest ∙ st.seen.refs q;
       units = λ q. units1 q ∙ st.seen.units q ∙ sym (ap (option_map still) (same-pieces old.board new.board r.pieces q));
-      actors = λ a. ap (λ (k : World). k.actors a) did.rest ∙ st.seen.actors a;
+      actors = λ a. ap (λ (k : World). k.actors a) did.rest ∙ st.seen.actors a ∙ sym (ap actor_of_piece (r.pieces a));
       taken = λ a. ap (λ (k : World). k.taken a) did.rest ∙ st.seen.taken a;
-      mails = λ a. ap (λ f. f a) did.mails ∙ st.seen.mails a;
+      mails = λ a. did.mails a ∙ ap (λ es. w.mails a ++ put_of u tried.root (w.actors a) (effects_to a es)) none ∙ ap (λ ms. w.mails a ++ ms) (put-none u tried.root (w.actors a)) ∙ append-nil (w.mails a) ∙ st.seen.mails a;
       attempts = λ g v. cc;
       bytes = ap (λ (k : World). k.bytes) did.rest ∙ st.seen.bytes;
       made = ap (λ (k : World). k.made) did.rest ∙ st.seen.made;
@@ -246,6 +262,7 @@ module _ (old : Shared) (st : Stands old) (on_going : old.end ≡ None) (u : Nam
     machines = machines-same (IsMachine old.setup) old.board new.board r.pieces st.machines;
     attempts = λ g v t is. cc;
     numbers = λ q k d in_range. let long = length-append old.history (Run u ∷ []) in let below = st.numbers q k d in_range in omega (arith, long, below);
+    definite = st.definite;
   })
 
   -- the attempt commits
@@ -257,16 +274,13 @@ module _ (old : Shared) (st : Stands old) (on_going : old.end ≡ None) (u : Nam
     rises = r.done.rises
 
     abbrev after : Shared
-    after = record old { history = old.history ++ Run u ∷ []; versions = new.versions; attempts = new.attempts; bytes = old.bytes ++ effects_bytes r.log.log.effects; board = new.board }
+    after = record old { history = old.history ++ Run u ∷ []; versions = new.versions; attempts = new.attempts; bytes = old.bytes ++ effects_bytes r.log.log.effects; board = new.board; mails = new.mails }
 
     abbrev w3 : World
     w3 = committed_world w2 u (still unit) tried2 result v
 
     all_effects : tried.effects ++ effects ≡ r.log.log.effects
     all_effects = ap (λ es. es ++ effects) seen.is.effects ∙ sym same_effects
-
-    all_prints : ArePrints (tried.effects ++ effects)
-    all_prints = subst ArePrints (ap (λ es. es ++ effects) (sym seen.is.effects)) are_prints
 
     longer : length old.history ≤ length (old.history ++ Run u ∷ [])
     longer = let long = length-append old.history (Run u ∷ []) in omega (arith, long)
@@ -279,36 +293,41 @@ module _ (old : Shared) (st : Stands old) (on_going : old.end ≡ None) (u : Nam
         ∙ sym (ref-committed old.versions r.log.log.writes (suc (length old.history)) rises q)
         ∙ sym (now-stays old st going u new.attempts r.goes.attempts versions new.versions r.versions q)
 
-    becomes : effects_unit (tried.effects ++ effects) unit ≡ unit
-    becomes = no-becoming (tried.effects ++ effects) all_prints unit
+    abbrev unit_after : UnitState
+    unit_after = answered (with_made (effects_unit r.log.log.effects unit)) v
 
-    states : (q : Name) → state_at new.board q ≡ cond (same_name q u) (Some (answered (with_made unit) v)) (state_at old.board q)
-    states q = go-same u x r.unit tree old.board new.board unit_there r.goes.tasks (answered (with_made unit) v) r.stands.state q
+    states : (q : Name) → state_at new.board q ≡ cond (same_name q u) (Some unit_after) (state_at old.board q)
+    states = act-states r.log.log.effects old new r.board r.acts u x unit_there unit_after (go-same u x r.unit tree old.board r.board unit_there r.goes.tasks unit_after r.stands.state)
 
     units : (q : Name) → w3.units q ≡ option_map still (state_at new.board q)
     units q = on (same_name q u) (states q)
       where
-        on : (c : Bool) → state_at new.board q ≡ cond c (Some (answered (with_made unit) v)) (state_at old.board q)
+        on : (c : Bool) → state_at new.board q ≡ cond c (Some unit_after) (state_at old.board q)
             → cond c (Some (still (answered (with_made (effects_unit (tried.effects ++ effects) unit)) v))) (w2.units q) ≡ option_map still (state_at new.board q)
-        on true e = ap (λ k. Some (still (answered (with_made k) v))) becomes ∙ sym (ap (option_map still) e)
+        on true e = ap (λ es. Some (still (answered (with_made (effects_unit es unit)) v))) all_effects ∙ sym (ap (option_map still) e)
         on false e = units1 q ∙ st.seen.units q ∙ sym (ap (option_map still) e)
 
-    mails : (a : Name) → w3.mails a ≡ []
-    mails a = ap (settle (same_name tried.root)) (empty ∙ ap (λ ms. ms ++ []) nothing)
+    actors : (a : Name) → w3.actors a ≡ actor_at new.board a
+    actors a =
+        spawned-over (tried.effects ++ effects) w2.actors a
+        ∙ ap₂ (λ es below. option_or (spawned es a) below) all_effects (ap (λ (k : World). k.actors a) did.rest ∙ st.seen.actors a)
+        ∙ sym (act-actors r.log.log.effects old new r.board r.acts (go-actors u x r.unit tree old.board r.board unit_there r.goes.tasks) a)
+
+    -- what is sent is settled
+    put2 : HasPut w2 u unit tried2
+    put2 = record { live = did.put.live; attempt = over.attempt; in_line = did.put.in_line }
+
+    mails : (a : Name) → w3.mails a ≡ mail_at new.mails a
+    mails a =
+        mail-settles w2 u unit tried2 a (mail_at old.mails a) put2 (st.definite a) in_mail
+        ∙ ap (λ es. mail_at old.mails a ++ map (settled u) (effects_to a es)) all_effects
+        ∙ sym (r.mails a)
       where
-        nothing : w2.mails a ≡ []
-        nothing = ap (λ f. f a) did.mails ∙ st.seen.mails a
-
-        no-send : sends w2 u a ≡ []
-        no-send =
-            ap (λ found. held_sends u a found ++ attempt_sends u a (w2.attempts u)) (units1 u ∙ live)
-            ∙ ap (attempt_sends u a) (ap (λ c. cond c (Some tried2) (w1.attempts u)) (same_name-itself u))
-            ∙ ap (map (tentative u tried.root)) (no-sends (tried.effects ++ effects) all_prints a)
-
-        empty : w2.mails a ++ kept_sends w2 u a ≡ w2.mails a ++ []
-        empty =
-            ap (λ ms. w2.mails a ++ drop (length (unsettled u (line w2 a))) ms) no-send
-            ∙ ap (λ ms. w2.mails a ++ ms) (drop-nothing (length (unsettled u (line w2 a))))
+        in_mail : w2.mails a ≡ mail_at old.mails a ++ put_of u tried.root (w2.actors a) (effects_to a (tried.effects ++ effects))
+        in_mail =
+            did.mails a
+            ∙ ap₂ (λ ms found. ms ++ put_of u tried.root found (effects_to a effects)) (st.seen.mails a) (sym (ap (λ (k : World). k.actors a) did.rest))
+            ∙ ap (λ es. mail_at old.mails a ++ put_of u tried.root (w2.actors a) (effects_to a (es ++ effects))) (sym seen.is.effects)
 
     others : (k : Name) → (k ≡ u → ⊥) → with_at w2.attempts u None k ≡ w.attempts k
     others k other = on (same_name k u) refl
@@ -326,14 +345,14 @@ module _ (old : Shared) (st : Stands old) (on_going : old.end ≡ None) (u : Nam
     apart : (k : Name) → (k ≡ u → ⊥) → state_at new.board k ≡ state_at old.board k
     apart k other = states k ∙ on (same_name k u) refl
       where
-        on : (c : Bool) → same_name k u ≡ c → cond c (Some (answered (with_made unit) v)) (state_at old.board k) ≡ state_at old.board k
+        on : (c : Bool) → same_name k u ≡ c → cond c (Some unit_after) (state_at old.board k) ≡ state_at old.board k
         on true e = absurd (other (same_name-equal k u e))
         on false e = refl
 
     grows : Grows (finished_at old.board) (finished_at new.board)
     grows f val is = on (same_name f u) refl (states f)
       where
-        on : (c : Bool) → same_name f u ≡ c → state_at new.board f ≡ cond c (Some (answered (with_made unit) v)) (state_at old.board f) → finished_at new.board f ≡ Some val
+        on : (c : Bool) → same_name f u ≡ c → state_at new.board f ≡ cond c (Some unit_after) (state_at old.board f) → finished_at new.board f ≡ Some val
         on true e so =
             let no : None ≡ Some val = sym attempt.unfinished ∙ sym (ap (option_and_then (λ (k : UnitState). k.finished)) (ap (state_at old.board) (same_name-equal f u e) ∙ state-there old.board u x unit_there)) ∙ is in cc
         on false e so = ap (option_and_then (λ (k : UnitState). k.finished)) so ∙ is
@@ -352,7 +371,7 @@ module _ (old : Shared) (st : Stands old) (on_going : old.end ≡ None) (u : Nam
         history = ap (λ (k : World). k.history ++ Run u ∷ []) did.rest ∙ ap (λ h. h ++ Run u ∷ []) st.seen.history;
         refs = refs;
         units = units;
-        actors = λ a. ap (λ f. f a) (no-actors (tried.effects ++ effects) all_prints w2.actors) ∙ ap (λ (k : World). k.actors a) did.rest ∙ st.seen.actors a;
+        actors = actors;
         taken = λ a. ap (settle (same_name tried.root)) (ap (λ (k : World). k.taken a) did.rest ∙ st.seen.taken a);
         mails = mails;
         attempts = λ g k. seen-stay old st going u new.attempts r.goes.attempts versions new.versions before r.versions (λ q. with_at w2.attempts u None q) others (ap (λ c. cond c None (w2.attempts u)) (same_name-itself u)) k;
@@ -360,11 +379,12 @@ module _ (old : Shared) (st : Stands old) (on_going : old.end ≡ None) (u : Nam
         made = ap (λ (k : World). k.made) did.rest ∙ st.seen.made;
         end = ap (λ (k : World). k.end) did.rest ∙ st.seen.end;
       };
-      machines = go-machines (IsMachine old.setup) u r.unit tree old.board new.board r.stands.machine r.goes.tasks st.machines;
+      machines = act-machines r.log.log.effects old new r.board r.acts (IsMachine old.setup) (go-machines (IsMachine old.setup) u r.unit tree old.board r.board r.stands.machine r.goes.tasks st.machines);
       attempts = λ g k t is.
           let stay = stayed old st going u new.attempts r.goes.attempts k t is in
           under-way old after k t refl (apart k stay.0) (λ q. reads-stay old st going u new.attempts r.goes.attempts versions new.versions r.versions k t is q ∙ before k t is q) grows longer (st.attempts going k t stay.1);
       numbers = above_pruned r.versions.live versions new.versions r.versions.pruned (suc (length (old.history ++ Run u ∷ []))) above;
+      definite = λ a. subst AreDefinite (sym (r.mails a)) (settled-definite u (mail_at old.mails a) (effects_to a r.log.log.effects) (st.definite a));
     })
 
 -- what a valid attempt comes to
@@ -377,19 +397,19 @@ module _ (old : Shared) (st : Stands old) (on_going : old.end ≡ None) (u : Nam
 
     pub failed : (failed : Code) (place : Spot) → outcome_of ended ≡ outcome.Fault failed place → (found : Given) (new : Shared) → Ends old u (ending.Fault failed place u) found new → Stands new
     failed code place is found new r =
-        ends-run old st on_going u x tree unit_there there ended is_ended valid [] [] tt nothing (ending.Fault code place u) found new r
-        (end_row.attempt_fault u (still (unit_state x)) _ _ code place (over old st on_going u x tree unit_there there ended is_ended valid [] [] tt nothing) is)
+        ends-run old st on_going u x tree unit_there there ended is_ended valid [] [] nothing refl (ending.Fault code place u) found new r
+        (end_row.attempt_fault u (still (unit_state x)) _ _ code place (over old st on_going u x tree unit_there there ended is_ended valid [] [] nothing) is)
 
     pub spent : outcome_of ended ≡ outcome.Spent → (found : Given) (new : Shared) → Ends old u (ending.Spent u) found new → Stands new
     spent is found new r =
-        ends-run old st on_going u x tree unit_there there ended is_ended valid [] [] tt nothing (ending.Spent u) found new r
-        (end_row.attempt_spent u (still (unit_state x)) _ _ (over old st on_going u x tree unit_there there ended is_ended valid [] [] tt nothing) is)
+        ends-run old st on_going u x tree unit_there there ended is_ended valid [] [] nothing refl (ending.Spent u) found new r
+        (end_row.attempt_spent u (still (unit_state x)) _ _ (over old st on_going u x tree unit_there there ended is_ended valid [] [] nothing) is)
 
   pub end-keeps : (ended : TaskEnd) → end_at tree ≡ Some ended → (found : Given) (new : Shared) → EndGives old u x tree ended found new → Stands new
   end-keeps (end.Fault code place) is found new r = failed (end.Fault code place) is (λ v e. cc) code place refl found new r
   end-keeps end.Spent is found new r = spent end.Spent is (λ v e. cc) refl found new r
   end-keeps (end.Value v) is found new r =
-      commits old st on_going u x tree unit_there there (end.Value v) is valid r.log.log.effects r.log.log.writes (prints r.log.log.effects r.done.printed) done v found new refl r refl refl
+      commits old st on_going u x tree unit_there there (end.Value v) is valid r.log.log.effects r.log.log.writes done v found new refl r refl refl
     where
       done : (k : Value) → outcome.Value v ≡ outcome.Value k → (t : Task) → named tree.root tree.tasks ≡ Some t → (t.log.log.writes ≡ r.log.log.writes) × (t.log.log.effects ≡ r.log.log.effects)
       done k e t is_t =

@@ -1,96 +1,95 @@
--- Effects that print alone.
-use Rattle.std.proofs.Common.{◌≡◌, ◌∙◌, ℕ, zero, suc, false, cond, drop, append-nil, append_assoc, List, [], ◌∷◌, ◌++◌, refl, sym, ap, ap₂, arith}
-use Rattle.std.specs.Prelude.{Option, None, Some, All}
+-- What the effects of an attempt that commits come to among the pieces, as the meaning sees them.
+use Rattle.std.proofs.Common.{◌≡◌, ◌∙◌, Bool, true, false, cond, List, [], ◌∷◌, refl, sym, ap}
+use Rattle.std.specs.Option.{option_and_then, option_map, option_or}
+use Rattle.std.specs.Prelude.{Option, None, Some}
 use Rattle.actor_mailbox.specs.declared.message.Message.{Message}
+use Rattle.actor_mails.specs.Mails.{mail_at}
+use Rattle.eval_step.specs.Evaluation.{Evaluation}
 use Rattle.serial_model.specs.declared.actor_state.ActorState.{ActorState}
 use Rattle.serial_model.specs.declared.effect.Effect.{Effect}
 use Rattle.serial_model.specs.declared.effect.What.{What}
 use Rattle.serial_model.specs.declared.effect.What.TheVariants as what
 use Rattle.serial_model.specs.Sends.{effects_to}
 use Rattle.serial_model.specs.State.{UnitState}
-use Rattle.shared_world.specs.rows.Attempts.{IsBytes}
-use Rattle.value_core.proofs.NamedLaws.{same_name-itself}
+use Rattle.serial_model.specs.Step.{idle}
+use Rattle.shared_world.proofs.ActorPieces.{SameActors, actor_of_piece, roused-actor}
+use Rattle.shared_world.proofs.Live.{no-piece}
+use Rattle.shared_world.proofs.States.{EachMachine, roused-unit, state_of}
+use Rattle.shared_world.specs.rows.Actors.{acted, spawned}
+use Rattle.shared_world.specs.rows.Attempts.{ActorsAct}
+use Rattle.shared_world.specs.Shared.{Shared, state_at, unit_state}
+use Rattle.unit_table.specs.Board.{Board, actor_at, piece_at, unit_at}
+use Rattle.unit_table.specs.declared.piece.Piece.{Piece}
+use Rattle.unit_table.specs.declared.unit.Unit.{Unit}
+use Rattle.unit_table.specs.Piece.{unit_in}
+use Rattle.value_core.proofs.NamedLaws.{same_name-equal}
+use Rattle.value_core.specs.declared.value.Value.{Value}
 use Rattle.value_core.specs.Named.{Name, same_name}
-use Rattle.world_model.specs.rows.Attempts.{does_local, local, mails_done, with_done}
-use Rattle.world_model.specs.rows.Commits.{effects_actors, effects_unit, what_actor, what_unit}
-use Rattle.world_model.specs.World.{Attempt, World}
+use Rattle.world_model.specs.rows.Commits.{effects_actors, what_actor}
 
--- they print, one after another
-abbrev pub ArePrints : List Effect → Type 0
-ArePrints [] = Unit {0}
-ArePrints (e ∷ es) = IsBytes e.what × ArePrints es
-
-pub prints : (es : List Effect) → All (λ (e : Effect). IsBytes e.what) es → ArePrints es
-prints [] all = tt
-prints (e ∷ es) all = (all 0 e (omega arith), prints es (λ k d less. all (suc k) d (omega (arith, less))))
-
--- nothing is sent, nothing is made, and nothing becomes of the unit
-pub no-actors : (es : List Effect) → ArePrints es → (f : Name → Option ActorState) → effects_actors es f ≡ f
-no-actors [] are f = refl
-no-actors (e ∷ es) are f = ap (effects_actors es) (one e.what are.0) ∙ no-actors es are.1 f
+-- the actors that effects make, over those that are there
+effects-over : (es : List Effect) (f made below : Name → Option ActorState) → ((a : Name) → f a ≡ option_or (made a) (below a)) → (a : Name) → effects_actors es f a ≡ option_or (effects_actors es made a) (below a)
+effects-over [] f made below same a = same a
+effects-over (e ∷ es) f made below same a = effects-over es (what_actor e.what f) (what_actor e.what made) below (λ b. one e.what b) a
   where
-    one : (w : What) → IsBytes w → what_actor w f ≡ f
-    one (what.Bytes text) is = refl
-    one (what.Send to args) is = absurd is
-    one (what.Spawn actor behaviour state) is = absurd is
-    one (what.Become behaviour state) is = absurd is
+    one : (k : What) (b : Name) → what_actor k f b ≡ option_or (what_actor k made b) (below b)
+    one (what.Spawn actor behaviour state) b = on (same_name b actor)
+      where
+        on : (c : Bool) → cond c (Some (idle behaviour state)) (f b) ≡ option_or (cond c (Some (idle behaviour state)) (made b)) (below b)
+        on true = refl
+        on false = same b
+    one (what.Bytes text) b = same b
+    one (what.Send to args) b = same b
+    one (what.Become behaviour state) b = same b
 
-pub no-becoming : (es : List Effect) → ArePrints es → (unit : UnitState) → effects_unit es unit ≡ unit
-no-becoming [] are unit = refl
-no-becoming (e ∷ es) are unit = ap (effects_unit es) (one e.what are.0) ∙ no-becoming es are.1 unit
-  where
-    one : (w : What) → IsBytes w → what_unit w unit ≡ unit
-    one (what.Bytes text) is = refl
-    one (what.Send to args) is = absurd is
-    one (what.Spawn actor behaviour state) is = absurd is
-    one (what.Become behaviour state) is = absurd is
+pub spawned-over : (es : List Effect) (below : Name → Option ActorState) (a : Name) → effects_actors es below a ≡ option_or (spawned es a) (below a)
+spawned-over es below a = effects-over es below (λ b. None) below (λ b. refl) a
 
-pub no-sends : (es : List Effect) → ArePrints es → (a : Name) → effects_to a es ≡ []
-no-sends [] are a = refl
-no-sends (e ∷ es) are a = one e.what are.0 (no-sends es are.1 a)
-  where
-    one : (w : What) → IsBytes w → effects_to a es ≡ [] → effects_to a (record e { what = w } ∷ es) ≡ []
-    one (what.Bytes text) is rest = rest
-    one (what.Send to args) is rest = absurd is
-    one (what.Spawn actor behaviour state) is rest = absurd is
-    one (what.Become behaviour state) is rest = absurd is
+-- ---- a piece after effects: an actor that is made, or what stood there
+acted-state : (sent : List (List Value)) (mail : List Message) (found : Option Piece) → state_of (acted None sent mail found) ≡ state_of found
+acted-state [] mail found = refl
+acted-state (args ∷ more) mail found = ap (option_map unit_state) (roused-unit found)
 
--- the attempt with these effects more
-abbrev pub with_effects : Attempt → List Effect → Attempt
-with_effects tried es = record tried { effects = tried.effects ++ es; ended = None }
+acted-actor : (made : Option ActorState) (sent : List (List Value)) (mail : List Message) (found : Option Piece) → actor_of_piece (acted made sent mail found) ≡ option_or made (actor_of_piece found)
+acted-actor (Some state) sent mail found = refl
+acted-actor None [] mail found = refl
+acted-actor None (args ∷ more) mail found = roused-actor found
 
--- Its root has done these, and nothing else has changed.
-pub record HasDoneLocally (w : World) (u : Name) (tried : Attempt) (es : List Effect) (after : World) : Type 0 where
-  pub attempt : after.attempts u ≡ Some (with_effects tried es)
-  pub others : (v : Name) → same_name v u ≡ false → after.attempts v ≡ w.attempts v
-  pub mails : after.mails ≡ w.mails
-  pub rest : after ≡ record w { attempts = after.attempts; mails = after.mails }
+acted-unit : (made : Option ActorState) (sent : List (List Value)) (mail : List Message) (found : Option Piece) (z : Unit) → option_and_then unit_in (acted made sent mail found) ≡ Some z → option_and_then unit_in found ≡ Some z
+acted-unit (Some state) sent mail found z is = cc
+acted-unit None [] mail found z is = is
+acted-unit None (args ∷ more) mail found z is = sym (roused-unit found) ∙ is
 
-pub done-locally : (w : World) (u : Name) (tried : Attempt) (es : List Effect) → ArePrints es → w.attempts u ≡ Some tried → tried.ended ≡ None → HasDoneLocally w u tried es (local w u tried es)
-done-locally w u tried [] are there none = record {
-  attempt = there ∙ ap (λ t. Some t) (ap₂ (λ effects ended. record tried { effects = effects; ended = ended }) (sym (append-nil tried.effects)) none);
-  others = λ v apart. refl;
-  mails = refl;
-  rest = refl;
-}
-done-locally w u tried (e ∷ es) are there none =
-    let rest = done-locally (does_local w u tried e) u (with_done tried e) es are.1 (ap (λ c. cond c (Some (with_done tried e)) (w.attempts u)) (same_name-itself u)) refl in
-    record {
-      attempt = rest.attempt ∙ ap (λ effects. Some (record tried { effects = effects; ended = None })) (append_assoc tried.effects (e ∷ []) es);
-      others = λ v apart. rest.others v apart ∙ ap (λ c. cond c (Some (with_done tried e)) (w.attempts v)) apart;
-      mails = rest.mails ∙ one e.what are.0;
-      rest = rest.rest;
-    }
-  where
-    one : (k : What) → IsBytes k → mails_done w u tried k ≡ w.mails
-    one (what.Bytes text) is = refl
-    one (what.Send to args) is = absurd is
-    one (what.Spawn actor behaviour state) is = absurd is
-    one (what.Become behaviour state) is = absurd is
+-- ---- all pieces after the effects
+module _ (effects : List Effect) (base new : Shared) (board : Board) (acts : ActorsAct effects base board new) where
+  -- a unit goes on, and the others stay
+  pub act-states : (u : Name) (x : Unit) → unit_at base.board u ≡ Some x → (after : UnitState) → ((q : Name) → state_at board q ≡ cond (same_name q u) (Some after) (state_at base.board q))
+      → (q : Name) → state_at new.board q ≡ cond (same_name q u) (Some after) (state_at base.board q)
+  act-states u x there after before q = ap state_of (acts.pieces q) ∙ on (spawned effects q) refl
+    where
+      -- where an actor is made there was nothing
+      fresh : piece_at base.board q ≡ None → (c : Bool) → same_name q u ≡ c → None ≡ cond c (Some after) (state_at base.board q)
+      fresh none true e =
+          let no : None ≡ Some x = sym (ap (option_and_then unit_in) none) ∙ ap (unit_at base.board) (same_name-equal q u e) ∙ there in cc
+      fresh none false e = sym (no-piece base.board q none)
 
-abbrev no-messages : List Message
-no-messages = []
+      on : (made : Option ActorState) → spawned effects q ≡ made
+          → state_of (acted (spawned effects q) (effects_to q effects) (mail_at new.mails q) (piece_at board q)) ≡ cond (same_name q u) (Some after) (state_at base.board q)
+      on None is =
+          ap (λ made. state_of (acted made (effects_to q effects) (mail_at new.mails q) (piece_at board q))) is
+          ∙ acted-state (effects_to q effects) (mail_at new.mails q) (piece_at board q)
+          ∙ before q
+      on (Some actor) is =
+          ap (λ made. state_of (acted made (effects_to q effects) (mail_at new.mails q) (piece_at board q))) is
+          ∙ fresh (acts.none q actor is) (same_name q u) refl
 
-pub drop-nothing : (n : ℕ) → drop n no-messages ≡ no-messages
-drop-nothing zero = refl
-drop-nothing (suc n) = refl
+  -- those that are made are there, and the others stay
+  pub act-actors : SameActors base.board board → (a : Name) → actor_at new.board a ≡ option_or (spawned effects a) (actor_at base.board a)
+  act-actors before a =
+      ap actor_of_piece (acts.pieces a)
+      ∙ acted-actor (spawned effects a) (effects_to a effects) (mail_at new.mails a) (piece_at board a)
+      ∙ ap (option_or (spawned effects a)) (before a)
+
+  pub act-machines : (P : Evaluation → Type 0) → EachMachine P board → EachMachine P new.board
+  act-machines P all q z there =
+      all q z (acted-unit (spawned effects q) (effects_to q effects) (mail_at new.mails q) (piece_at board q) z (sym (ap (option_and_then unit_in) (acts.pieces q)) ∙ there))

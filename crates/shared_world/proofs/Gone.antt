@@ -1,10 +1,15 @@
 -- An attempt that is gone, with its tasks, leaves what is kept standing.
 use Rattle.std.proofs.Common.{◌≡◌, ◌∙◌, ℕ, suc, Bool, true, false, cond, length, le_refl, List, [], ◌∷◌, ◌++◌, refl, sym, ap, subst}
 use Rattle.std.specs.Option.{option_and_then, option_map}
-use Rattle.std.specs.Prelude.{Option, None, Some, is_some}
+use Rattle.std.proofs.lemmas.List.Elements.{All-head, All-tail}
+use Rattle.std.specs.List.{All}
+use Rattle.std.specs.Prelude.{Option, None, Some, if◌then◌else◌, is_some, not}
+use Rattle.actor_mailbox.specs.declared.message.Message.{Message}
+use Rattle.actor_mails.specs.Mails.{mail_at}
 use Rattle.ref_store.proofs.StoreLaws.{above_pruned}
 use Rattle.ref_store.specs.declared.version.Version.{Version}
 use Rattle.serial_model.specs.State.{UnitState}
+use Rattle.shared_world.proofs.ActorPieces.{SameActors, actor_of_piece, gone-actor, not-same, unit-no-actor}
 use Rattle.shared_world.proofs.Live.{state-there}
 use Rattle.shared_world.proofs.Standing.{under-way}
 use Rattle.shared_world.proofs.States.{EachMachine, SameStates, gone-same}
@@ -16,7 +21,7 @@ use Rattle.shared_world.specs.Shared.{Shared, is_going, ref_now, state_at, unit_
 use Rattle.shared_world.specs.Stands.{IsMachine, Stands}
 use Rattle.task_fork_join.specs.Attempt.{Attempt}
 use Rattle.txn_snapshot.specs.SnapshotAnswer.{snapshot_of}
-use Rattle.unit_table.specs.Board.{Board, piece_at, unit_at}
+use Rattle.unit_table.specs.Board.{Board, actor_at, piece_at, unit_at}
 use Rattle.unit_table.specs.declared.piece.Piece.{Piece}
 use Rattle.unit_table.specs.declared.piece.Piece.TheVariants as piece
 use Rattle.unit_table.specs.declared.unit.Unit.{Unit}
@@ -33,7 +38,7 @@ use Rattle.world_model.specs.rows.Undone.{undone, unless_gone}
 use Rattle.world_model.specs.StandsFor.{AttemptStands}
 use Rattle.world_model.specs.World as world
 use Rattle.world_model.specs.World.{LiveUnit, World, still}
-use Rattle.actor_mailbox.specs.Messages.{without}
+use Rattle.actor_mailbox.specs.Messages.{passes, without}
 use Rattle.eval_step.specs.Evaluation.{Evaluation}
 
 -- the pieces, as the meaning sees them, once the tasks are gone
@@ -46,6 +51,23 @@ go-same u x y tree old new there go after is q = on (same_name q u) refl
     on false e =
         ap (λ f. option_map unit_state (option_and_then unit_in f)) (go.others q (λ same. let no : true ≡ false = sym (same_name-itself u) ∙ ap (λ n. same_name n u) (sym same) ∙ e in cc))
         ∙ gone-same (piece_at old q) (is_some (named q tree.tasks))
+
+-- and as actors
+pub go-actors : (u : Name) (x y : Unit) (tree : Attempt) (old new : Board) → unit_at old u ≡ Some x → TasksGo u y tree old new → SameActors old new
+go-actors u x y tree old new there go q = on (same_name q u) refl
+  where
+    on : (c : Bool) → same_name q u ≡ c → actor_at new q ≡ actor_at old q
+    on true e =
+        let is : q ≡ u = same_name-equal q u e in
+        ap (actor_at new) is ∙ ap actor_of_piece go.here ∙ sym (ap (actor_at old) is ∙ unit-no-actor old u (unit_state x) (state-there old u x there))
+    on false e = ap actor_of_piece (go.others q (not-same q u e)) ∙ gone-actor (piece_at old q) (is_some (named q tree.tasks))
+
+-- messages that depend on nothing stay
+pub without-settled : (test : Name → Bool) (ms : List Message) → All (λ (m : Message). m.depends ≡ None) ms → without test ms ≡ ms
+without-settled test [] all = refl
+without-settled test (m ∷ ms) all =
+    ap (λ c. if c then m ∷ without test ms else without test ms) (ap (λ on. not (passes test on)) (All-head (λ (m : Message). m.depends ≡ None) m ms all))
+    ∙ ap (λ rest. m ∷ rest) (without-settled test ms (All-tail (λ (m : Message). m.depends ≡ None) m ms all))
 
 pub go-machines : (P : Evaluation → Type 0) (u : Name) (y : Unit) (tree : Attempt) (old new : Board) → P y.machine → TasksGo u y tree old new → EachMachine P old → EachMachine P new
 go-machines P u y tree old new is go all q z there = on (same_name q u) refl
@@ -157,9 +179,9 @@ module _ (old : Shared) (st : Stands old) (on_going : is_going old.end ≡ true)
       history = st.seen.history;
       refs = λ q. st.seen.refs q ∙ sym (now-stays old st on_going u new.attempts r.goes.attempts old.versions new.versions r.versions q);
       units = λ q. units q (gone q) refl;
-      actors = st.seen.actors;
+      actors = λ a. st.seen.actors a ∙ sym (go-actors u x r.unit tree old.board new.board unit_there r.goes.tasks a);
       taken = λ a. ap (without gone) (st.seen.taken a);
-      mails = λ a. ap (without gone) (st.seen.mails a);
+      mails = λ a. ap (without gone) (st.seen.mails a) ∙ without-settled gone (mail_at old.mails a) (st.definite a);
       attempts = λ going v. seen-stay old st on_going u new.attempts r.goes.attempts old.versions new.versions (λ k t is q. refl) r.versions (λ k. unless_gone gone (w.attempts k)) others here v;
       bytes = st.seen.bytes;
       made = st.seen.made;
@@ -171,6 +193,7 @@ module _ (old : Shared) (st : Stands old) (on_going : is_going old.end ≡ true)
         under-way old after v other refl (same v) (reads-stay old st on_going u new.attempts r.goes.attempts old.versions new.versions r.versions v other is)
         (λ f val fin. ap (option_and_then (λ (k : UnitState). k.finished)) (same f) ∙ fin) (le_refl (length old.history)) (st.attempts on_going v other stay.1);
     numbers = above_pruned r.versions.live old.versions new.versions r.versions.pruned (suc (length old.history)) st.numbers;
+    definite = st.definite;
   })
     where
       after : Shared

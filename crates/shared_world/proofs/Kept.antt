@@ -13,16 +13,18 @@ use Rattle.shared_world.proofs.Begins.{begins}
 use Rattle.shared_world.proofs.Commits.{end-keeps}
 use Rattle.shared_world.proofs.Gone.{aborted}
 use Rattle.shared_world.proofs.Live.{going, no-unit, state-there, unfinished}
+use Rattle.shared_world.proofs.ActorPieces.{actor_of_piece, same-pieces-actors}
 use Rattle.shared_world.proofs.Standing.{same-states}
 use Rattle.shared_world.proofs.States.{machines-same, same-pieces}
-use Rattle.shared_world.proofs.Steps.{forked-task, marked-task, stepped}
+use Rattle.shared_world.proofs.Steps.{NeitherAt, forked-task, marked-task, stepped}
+use Rattle.shared_world.proofs.Turns.{actor-gave}
 use Rattle.shared_world.proofs.Units.{IsHere, unit-keeps}
 use Rattle.shared_world.specs.declared.given.Given.{Given}
 use Rattle.shared_world.specs.Gave as gave
 use Rattle.shared_world.specs.Gave.{Gave, GaveTask, GaveUnit, IsUnclaimed}
 use Rattle.shared_world.specs.Returned.{IsLive, Returned}
 use Rattle.shared_world.specs.rows.Tasks as row
-use Rattle.shared_world.specs.rows.Tasks.{AfterStep, Missing, RootGives, StepGives, TakesStep, TaskGives, WasEnded}
+use Rattle.shared_world.specs.rows.Tasks.{AfterStep, Missing, RootGives, StepGives, TaskGives}
 use Rattle.shared_world.specs.rows.Units.{Tries}
 use Rattle.shared_world.specs.Shared.{Shared, is_going, state_at, unit_state}
 use Rattle.shared_world.specs.Stands.{IsMachine, Stands}
@@ -44,7 +46,7 @@ use Rattle.value_core.specs.Place.{Spot}
 
 -- a claim that ends changes nothing that stands
 pub unclaimed-keeps : (ticket : Ticket) (old new : Shared) → Stands old → IsUnclaimed ticket old new → Stands new
-unclaimed-keeps ticket old new st is = subst Stands (sym is.rest) (same-states old st new.board (same-pieces old.board new.board is.pieces) (machines-same (IsMachine old.setup) old.board new.board is.pieces st.machines))
+unclaimed-keeps ticket old new st is = subst Stands (sym is.rest) (same-states old st new.board (same-pieces old.board new.board is.pieces) (same-pieces-actors old.board new.board is.pieces) (machines-same (IsMachine old.setup) old.board new.board is.pieces st.machines))
 
 -- what a unit comes to that is not finished
 pub unit-gave : (old : Shared) → Stands old → old.end ≡ None → (u : Name) → ((x : Unit) → unit_at old.board u ≡ Some x → (unit_state x).finished ≡ None) → (found : Given) (new : Shared) → GaveUnit old u found new → Stands new
@@ -68,31 +70,33 @@ module _ (old : Shared) (st : Stands old) (on_going : old.end ≡ None) (u : Nam
   missing-keeps ref None found new r = absurd r
   missing-keeps ref (Some version) found new r = aborted old st (ap is_going on_going) u x tree unit_there there ref version.number found new r
 
-  step-keeps : (task : Name) → state_at old.board task ≡ None → (went : Stepped) (found : Given) (new : Shared) → StepGives old u x task tree went found new → Stands new
+  step-keeps : (task : Name) → NeitherAt old.board task → (went : Stepped) (found : Given) (new : Shared) → StepGives old u x task tree went found new → Stands new
   step-keeps task none stepped_as.Now found new r = marked-task old st task (mark.Ready work.Eval) new none r.1
   step-keeps task none (stepped_as.Forked child) found new r = forked-task old st u task child new none r.1
   step-keeps task none (stepped_as.WaitJoin future) found new r = marked-task old st task (mark.Waiting (wait.Finish future)) new none r.1
   step-keeps task none (stepped_as.NotInSnapshot ref) found new r = missing-keeps ref (newest (versions_of old.versions ref)) found new r
   step-keeps task none stepped_as.Finished found new r = marked-task old st task (mark.Finished value.Nil) new none r.1
 
-  after-keeps : (task : Name) → state_at old.board task ≡ None → (went : Stepped) (end : Option TaskEnd) → end_at tree ≡ end → (found : Given) (new : Shared) → AfterStep old u x task tree went end found new → Stands new
+  after-keeps : (task : Name) → NeitherAt old.board task → (went : Stepped) (end : Option TaskEnd) → end_at tree ≡ end → (found : Given) (new : Shared) → AfterStep old u x task tree went end found new → Stands new
   after-keeps task none went None is found new r = step-keeps task none went found new r
   after-keeps task none went (Some ended) is found new r = root-keeps ended is found new r
 
 -- what a task comes to
-task-keeps : (old : Shared) → Stands old → old.end ≡ None → (u : Name) (x : Unit) (task : Name) (tree : Attempt) → unit_at old.board u ≡ Some x → named u old.attempts ≡ Some tree → state_at old.board task ≡ None
-    → (machine : Option Evaluation) → machine_of tree task ≡ machine → (found : Given) (new : Shared) → TaskGives old u x task tree machine found new → Stands new
-task-keeps old st on_going u x task tree unit_there there none (Some machine) is found new r =
+task-keeps : (old : Shared) → Stands old → old.end ≡ None → (u : Name) (x : Unit) (task : Name) (tree : Attempt) → unit_at old.board u ≡ Some x → named u old.attempts ≡ Some tree → NeitherAt old.board task
+    → (ended : Option TaskEnd) (machine : Option Evaluation) → end_at tree ≡ ended → machine_of tree task ≡ machine → (found : Given) (new : Shared) → TaskGives old u x task tree ended machine found new → Stands new
+task-keeps old st on_going u x task tree unit_there there none None (Some machine) unended is found new r =
     after-keeps (record old { attempts = with_named old.attempts u r.after })
     (stepped old st (ap is_going on_going) u task tree there machine r.moved is r.same r.of r.after r.went r.step)
     on_going u x r.after unit_there (named-here u r.after old.attempts) task none r.went (end_at r.after) refl found new r.comes
-task-keeps old st on_going u x task tree unit_there there none None is found new r = root-keeps old st on_going u x tree unit_there there r.ended r.is_ended found new r.comes
+task-keeps old st on_going u x task tree unit_there there none None None unended is found new r = absurd r
+task-keeps old st on_going u x task tree unit_there there none (Some ended) machine unended is found new r = root-keeps old st on_going u x tree unit_there there ended unended found new r
 
 pub task-gave : (old : Shared) → Stands old → old.end ≡ None → (name : Name) (found : Given) (new : Shared) → GaveTask old name found new → Stands new
 task-gave old st on_going name found new g =
-    task-keeps old st on_going g.owner g.unit name g.tree g.unit_there g.attempt (no-unit old.board name g.mark g.there) (machine_of g.tree name) refl found new g.gives
+    task-keeps old st on_going g.owner g.unit name g.tree g.unit_there g.attempt (no-unit old.board name g.mark g.there, ap actor_of_piece g.there) (end_at g.tree) (machine_of g.tree name) refl refl found new g.gives
 
 pub gave-keeps : (old new : Shared) (r : Returned) (found : Given) → Stands old → Gave old r found new → Stands new
 gave-keeps old new r found st (gave.stale none is same) = unclaimed-keeps r.ticket old new st same
 gave-keeps old new r found st (gave.unit name live g) = unit-gave old st (going old r name live) name (λ x there. unfinished old r name x live there) found new g
 gave-keeps old new r found st (gave.task name live g) = task-gave old st (going old r name live) name found new g
+gave-keeps old new r found st (gave.actor name live g) = actor-gave old st (going old r name live) name found new g

@@ -1,4 +1,6 @@
+pub mod ActorPieces
 pub mod Begins
+pub mod Besides
 pub mod Commits
 pub mod Effects
 pub mod Gone
@@ -6,8 +8,19 @@ pub mod Kept
 pub mod Later
 pub mod Lists
 pub mod Live
+pub mod MarkedActors
+pub mod MarkedGone
+pub mod MarkedSteps
+pub mod MarkedTasks
+pub mod MarkedTurns
+pub mod MarkedUnits
+pub mod MarkLaws
+pub mod Marks
 pub mod Opens
+pub mod Over
+pub mod Sent
 pub mod Standing
 pub mod States
 pub mod Steps
+pub mod Turns
 pub mod Units

@@ -1,14 +1,19 @@
 -- Main alone stands for the empty history.
 use Rattle.std.proofs.Common.{◌≡◌, ◌∙◌, Bool, true, false, cond, [], not-suc-le-zero, refl, sym, ap, subst}
 use Rattle.std.specs.Option.{option_and_then, option_map}
+use Rattle.std.proofs.lemmas.List.Elements.{All-nil}
+use Rattle.std.specs.List.{All}
 use Rattle.std.specs.Prelude.{None, Some}
+use Rattle.actor_mailbox.specs.declared.message.Message.{Message}
 use Rattle.core_syntax.specs.WellFormed.{IsWellFormed}
 use Rattle.serial_model.specs.State.{Setup, main_name, new_unit}
+use Rattle.shared_world.proofs.ActorPieces.{actor_of_piece, actors-put}
 use Rattle.shared_world.proofs.Live.{no-piece}
 use Rattle.shared_world.proofs.States.{machines-put, unit-put}
 use Rattle.shared_world.specs.Opening.{IsOpening}
 use Rattle.shared_world.specs.Shared.{Shared, state_at}
 use Rattle.shared_world.specs.Stands.{IsMachine, Stands}
+use Rattle.unit_table.specs.Board.{actor_at}
 use Rattle.unit_table.specs.declared.piece.Piece.TheVariants as piece
 use Rattle.unit_table.specs.declared.unit.Unit.{Unit}
 use Rattle.unit_table.specs.Piece.{unit_in}
@@ -25,9 +30,9 @@ opening-stands setup s formed is = subst Stands (sym is.rest) (record {
     history = refl;
     refs = λ r. refl;
     units = λ q. unit q (same_name q main_name) (states q);
-    actors = λ a. refl;
+    actors = λ a. sym (no-actor a);
     taken = λ a. refl;
-    mails = λ a. refl;
+    mails = λ a. sym (is.no_mail a);
     attempts = λ going u. tt;
     bytes = refl;
     made = refl;
@@ -37,8 +42,12 @@ opening-stands setup s formed is = subst Stands (sym is.rest) (record {
       (λ q x there. let no : None ≡ Some x = sym (ap (option_and_then unit_in) (is.nothing q)) ∙ there in cc);
   attempts = λ going u tree there. cc;
   numbers = λ r k d in_range. absurd (not-suc-le-zero in_range);
+  definite = λ a. subst (All (λ (m : Message). m.depends ≡ None)) (sym (is.no_mail a)) (All-nil (λ (m : Message). m.depends ≡ None));
 })
   where
+    no-actor : (a : Name) → actor_at s.board a ≡ None
+    no-actor a = actors-put main_name (Some (piece.Unit is.main)) is.empty s.board (sym (ap actor_of_piece (is.nothing main_name))) is.put a ∙ ap actor_of_piece (is.nothing a)
+
     states : (q : Name) → state_at s.board q ≡ cond (same_name q main_name) (Some (new_unit None setup.program.main [])) None
     states q =
         unit-put main_name is.main is.empty s.board is.put q

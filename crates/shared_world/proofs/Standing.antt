@@ -1,19 +1,23 @@
 -- How what is kept stands on, where parts of it change.
 use Rattle.std.proofs.Common.{◌≡◌, ◌∙◌, ◌≤◌, ℕ, suc, length, length-append, append-nil, le_refl, List, [], ◌∷◌, ◌++◌, refl, sym, ap, subst, arith}
 use Rattle.std.specs.Option.{option_and_then, option_map, option_or}
+use Rattle.std.specs.List.{All}
 use Rattle.std.specs.Prelude.{Option, None, Some}
+use Rattle.actor_mailbox.specs.declared.message.Message.{Message}
+use Rattle.actor_mails.specs.Mails.{Mail, SameMail}
 use Rattle.ref_store.proofs.StoreLaws.{versions_committed, written}
 use Rattle.ref_store.proofs.VersionLaws.{late_at, newest_push}
 use Rattle.ref_store.specs.declared.version.Version.{Version}
 use Rattle.ref_store.specs.Store.{IsAbove, committed, version_of, versions_of}
 use Rattle.ref_store.specs.Version.{newest}
 use Rattle.serial_model.specs.declared.end.End.{End}
-use Rattle.serial_model.specs.declared.entry.Entry.TheVariants.{Run}
+use Rattle.serial_model.specs.declared.entry.Entry.{Entry}
 use Rattle.serial_model.specs.declared.halt.Halt.TheVariants as halt
 use Rattle.serial_model.specs.declared.request.Request.TheVariants as request
 use Rattle.serial_model.specs.Standing.{Start}
 use Rattle.serial_model.specs.State.{Setup, UnitState}
 use Rattle.serial_model.specs.Step.{next_of}
+use Rattle.shared_world.proofs.ActorPieces.{SameActors, same-pieces-actors}
 use Rattle.shared_world.specs.Shared.{Shared, finished_at, ref_now, state_at}
 use Rattle.shared_world.specs.Stands.{IsMachine, IsUnderWay, Stands, start_of}
 use Rattle.shared_world.proofs.States.{EachMachine, SameStates, machines-same, same-pieces}
@@ -87,8 +91,8 @@ ref-committed versions writes number rises r = ap (λ vs. option_map (λ (v : Ve
     on (Some v) = ap (option_map (λ (v : Version). v.value)) (newest_push (versions_of versions r) (version_of number v))
 
 -- pieces change, and the meaning sees the same
-pub same-states : (old : Shared) → Stands old → (b : Board) → SameStates old.board b → EachMachine (IsMachine old.setup) b → Stands (record old { board = b })
-same-states old st b same machines = record {
+pub same-states : (old : Shared) → Stands old → (b : Board) → SameStates old.board b → SameActors old.board b → EachMachine (IsMachine old.setup) b → Stands (record old { board = b })
+same-states old st b same actors machines = record {
   formed = st.formed;
   world = st.world;
   is_world = st.is_world;
@@ -96,7 +100,7 @@ same-states old st b same machines = record {
     history = st.seen.history;
     refs = st.seen.refs;
     units = λ q. st.seen.units q ∙ sym (ap (option_map still) (same q));
-    actors = st.seen.actors;
+    actors = λ a. st.seen.actors a ∙ sym (actors a);
     taken = st.seen.taken;
     mails = st.seen.mails;
     attempts = st.seen.attempts;
@@ -107,20 +111,21 @@ same-states old st b same machines = record {
   machines = machines;
   attempts = λ going v tree there. under-way old (record old { board = b }) v tree refl (same v) (λ r. refl) (λ f v is. ap (option_and_then (λ (unit : UnitState). unit.finished)) (same f) ∙ is) (le_refl (length old.history)) (st.attempts going v tree there);
   numbers = st.numbers;
+  definite = st.definite;
 }
 
 -- the run ends: of attempts nothing is said any more
-pub ended : (old : Shared) → (st : Stands old) → (u : Name) (e : End) (b : Board) → SamePieces old.board b → IsWorld old.setup (ended_by st.world (Run u) e)
-    → Stands (record old { history = old.history ++ Run u ∷ []; end = Some e; board = b })
-ended old st u e b same is_world = record {
+pub ended : (old : Shared) → (st : Stands old) → (entry : Entry) (e : End) (b : Board) → SamePieces old.board b → IsWorld old.setup (ended_by st.world entry e)
+    → Stands (record old { history = old.history ++ entry ∷ []; end = Some e; board = b })
+ended old st entry e b same is_world = record {
   formed = st.formed;
-  world = ended_by st.world (Run u) e;
+  world = ended_by st.world entry e;
   is_world = is_world;
   seen = record {
-    history = ap (λ h. h ++ Run u ∷ []) st.seen.history;
+    history = ap (λ h. h ++ entry ∷ []) st.seen.history;
     refs = st.seen.refs;
     units = λ q. st.seen.units q ∙ sym (ap (option_map still) (same-pieces old.board b same q));
-    actors = st.seen.actors;
+    actors = λ a. st.seen.actors a ∙ sym (same-pieces-actors old.board b same a);
     taken = st.seen.taken;
     mails = st.seen.mails;
     attempts = λ going v. cc;
@@ -130,7 +135,8 @@ ended old st u e b same is_world = record {
   };
   machines = machines-same (IsMachine old.setup) old.board b same st.machines;
   attempts = λ going v tree there. cc;
-  numbers = λ r k d in_range. let long = length-append old.history (Run u ∷ []) in let below = st.numbers r k d in_range in omega (arith, long, below);
+  numbers = λ r k d in_range. let long = length-append old.history (entry ∷ []) in let below = st.numbers r k d in_range in omega (arith, long, below);
+  definite = st.definite;
 }
 
 -- what is owned by whom is nothing to the meaning
@@ -154,4 +160,29 @@ owners-say-nothing old owners st = record {
   machines = st.machines;
   attempts = λ going v tree there. under-way old (record old { owners = owners }) v tree refl refl (λ r. refl) (λ f v is. is) (le_refl (length old.history)) (st.attempts going v tree there);
   numbers = st.numbers;
+  definite = st.definite;
+}
+
+-- boxes that hold the same mail are nothing to the meaning
+pub same-mails : (old : Shared) → Stands old → (mails : Mail) → SameMail old.mails mails → Stands (record old { mails = mails })
+same-mails old st mails same = record {
+  formed = st.formed;
+  world = st.world;
+  is_world = st.is_world;
+  seen = record {
+    history = st.seen.history;
+    refs = st.seen.refs;
+    units = st.seen.units;
+    actors = st.seen.actors;
+    taken = st.seen.taken;
+    mails = λ a. st.seen.mails a ∙ sym (same a);
+    attempts = st.seen.attempts;
+    bytes = st.seen.bytes;
+    made = st.seen.made;
+    end = st.seen.end;
+  };
+  machines = st.machines;
+  attempts = λ going v tree there. under-way old (record old { mails = mails }) v tree refl refl (λ r. refl) (λ f v is. is) (le_refl (length old.history)) (st.attempts going v tree there);
+  numbers = st.numbers;
+  definite = λ a. subst (All (λ (m : Message). m.depends ≡ None)) (sym (same a)) (st.definite a);
 }

@@ -4,6 +4,7 @@ use Rattle.std.specs.Option.{option_and_then, option_map}
 use Rattle.std.specs.Prelude.{Option, None, Some}
 use Rattle.eval_step.specs.Evaluation.{Evaluation}
 use Rattle.serial_model.specs.State.{UnitState}
+use Rattle.shared_world.specs.rows.Actors.{roused}
 use Rattle.shared_world.specs.rows.Pieces.{IsSet, task_gone}
 use Rattle.shared_world.specs.Shared.{finished_by, state_at, unit_state}
 use Rattle.unit_table.specs.Board.{Board, IsPutAt, SamePieces, piece_at, unit_at}
@@ -174,3 +175,18 @@ tasks-set P t m old new set all q z there = on (same_name q t) refl
     on : (c : Bool) → same_name q t ≡ c → P z.machine
     on true e = let no : None ≡ Some z = sym (ap (unit_at new) (same_name-equal q t e) ∙ ap (option_and_then unit_in) set.here) ∙ there in cc
     on false e = beside-machine P t m (piece_at old q) z (sym (ap (option_and_then unit_in) (set.others q (λ same. let no : true ≡ false = sym (same_name-itself t) ∙ ap (λ n. same_name n t) (sym same) ∙ e in cc))) ∙ there) (all q)
+
+-- what is put is no other unit to the meaning
+pub states-put : (n : Name) (p : Option Piece) (old new : Board) → state_of p ≡ state_at old n → IsPutAt n p old new → SameStates old new
+states-put n p old new was put q = on (same_name q n) refl
+  where
+    on : (c : Bool) → same_name q n ≡ c → state_at new q ≡ state_at old q
+    on true e = let is : q ≡ n = same_name-equal q n e in ap (state_at new) is ∙ ap state_of put.here ∙ was ∙ sym (ap (state_at old) is)
+    on false e = ap state_of (put.others q (λ same. let no : true ≡ false = sym (same_name-itself n) ∙ ap (λ k. same_name k n) (sym same) ∙ e in cc))
+
+-- an actor that has mail now is nothing to units
+pub roused-unit : (found : Option Piece) → option_and_then unit_in (option_map roused found) ≡ option_and_then unit_in found
+roused-unit None = refl
+roused-unit (Some (piece.Unit x)) = refl
+roused-unit (Some (piece.Task m)) = refl
+roused-unit (Some (piece.Actor a)) = refl

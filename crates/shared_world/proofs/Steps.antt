@@ -12,6 +12,7 @@ use Rattle.serial_model.specs.Carried.{IsThere}
 use Rattle.serial_model.specs.Eval.{next}
 use Rattle.serial_model.specs.Standing.{Start}
 use Rattle.shared_world.proofs.Live.{no-piece}
+use Rattle.shared_world.proofs.ActorPieces.{SameActors, actor_of_piece, actors-put, actors-set}
 use Rattle.shared_world.proofs.Standing.{owners-say-nothing, same-states, under-way}
 use Rattle.shared_world.proofs.States.{SameStates, machines-put, task-put, task-set, tasks-set}
 use Rattle.shared_world.specs.Returned.{halt_of}
@@ -28,7 +29,7 @@ use Rattle.task_fork_join.specs.declared.task.Task.{Task}
 use Rattle.task_fork_join.specs.Running.{HasMachine, IsFinishedAs, IsMachine as IsTaskMachine, IsMove, IsRun, IsThereAt}
 use Rattle.task_fork_join.specs.Step.{IsStep}
 use Rattle.txn_snapshot.specs.SnapshotAnswer.{snapshot_of}
-use Rattle.unit_table.specs.Board.{Board}
+use Rattle.unit_table.specs.Board.{Board, actor_at}
 use Rattle.unit_table.specs.declared.mark.Mark.{Mark}
 use Rattle.unit_table.specs.declared.mark.Mark.TheVariants as mark
 use Rattle.unit_table.specs.declared.mark.Work.TheVariants as work
@@ -41,12 +42,12 @@ use Rattle.world_model.specs.World as world
 use Rattle.world_model.specs.World.{World}
 
 -- a task that goes on with that machine
-record GoesWith (tree : Attempt) (name : Name) (machine : Evaluation) : Type 0 where
-  task : Task
-  there : named name tree.tasks ≡ Some task
-  stage : task.stage ≡ kept.Going machine
+pub record GoesWith (tree : Attempt) (name : Name) (machine : Evaluation) : Type 0 where
+  pub task : Task
+  pub there : named name tree.tasks ≡ Some task
+  pub stage : task.stage ≡ kept.Going machine
 
-goes-with : (tree : Attempt) (name : Name) (machine : Evaluation) → machine_of tree name ≡ Some machine → GoesWith tree name machine
+pub goes-with : (tree : Attempt) (name : Name) (machine : Evaluation) → machine_of tree name ≡ Some machine → GoesWith tree name machine
 goes-with tree name machine is = on (named name tree.tasks) refl is
   where
     by-stage : (t : Task) (s : KeptStage) → t.stage ≡ s → named name tree.tasks ≡ Some t → going (record t { stage = s }) ≡ Some machine → GoesWith tree name machine
@@ -176,25 +177,33 @@ module _ (old : Shared) (st : Stands old) (on_going : is_going old.end ≡ true)
         machines = st.machines;
         attempts = λ go v other is_there. on v other (same_name v u) refl (sym (named-with_named v u after old.attempts) ∙ is_there);
         numbers = st.numbers;
+        definite = st.definite;
       }
         where
           on : (v : Name) (other : Attempt) (c : Bool) → same_name v u ≡ c → cond c (Some after) (named v old.attempts) ≡ Some other → IsUnderWay base v other
           on v other true is_u e = let so : after ≡ other = cc in subst (λ q. IsUnderWay base q other) (sym (same_name-equal v u is_u)) (subst (IsUnderWay base u) so own)
           on v other false is_u e = under-way old base v other refl refl (λ ref. refl) (λ f val fin. fin) (le_refl (length old.history)) (st.attempts on_going v other e)
 
+-- neither a unit nor an actor stands under the name
+abbrev pub NeitherAt : Board → Name → Type 0
+NeitherAt b name = (state_at b name ≡ None) × (actor_at b name ≡ None)
+
 -- the mark of a task is nothing to the meaning
-pub marked-task : (old : Shared) → Stands old → (task : Name) (m : Mark) (new : Shared) → state_at old.board task ≡ None → IsMarkedTask old task m new → Stands new
+pub marked-task : (old : Shared) → Stands old → (task : Name) (m : Mark) (new : Shared) → NeitherAt old.board task → IsMarkedTask old task m new → Stands new
 marked-task old st task m new none r = subst Stands (sym r.others)
-    (same-states old st new.board (task-set task m old.board new.board none r.set) (tasks-set (IsMachine old.setup) task m old.board new.board r.set st.machines))
+    (same-states old st new.board (task-set task m old.board new.board none.0 r.set) (actors-set task (piece.Task m) m old.board new.board refl none.1 r.set) (tasks-set (IsMachine old.setup) task m old.board new.board r.set st.machines))
 
 -- and so is a child that is forked
-pub forked-task : (old : Shared) → Stands old → (u task child : Name) (new : Shared) → state_at old.board task ≡ None → Forked old u task child new → Stands new
+pub forked-task : (old : Shared) → Stands old → (u task child : Name) (new : Shared) → NeitherAt old.board task → Forked old u task child new → Stands new
 forked-task old st u task child new none r =
-    marked-task (record old { owners = with_named old.owners child u; board = r.board }) (owned (same-states old st r.board same (machines-put (IsMachine old.setup) child (Some (piece.Task (mark.Ready work.Eval))) old.board r.board (λ z e. cc) r.put st.machines))) task (mark.Ready work.Eval) new
-    (same task ∙ none) r.steps
+    marked-task (record old { owners = with_named old.owners child u; board = r.board }) (owned (same-states old st r.board same same_actors (machines-put (IsMachine old.setup) child (Some (piece.Task (mark.Ready work.Eval))) old.board r.board (λ z e. cc) r.put st.machines))) task (mark.Ready work.Eval) new
+    (same task ∙ none.0, same_actors task ∙ none.1) r.steps
   where
     same : SameStates old.board r.board
     same = task-put child (mark.Ready work.Eval) old.board r.board (no-piece old.board child r.none) r.put
+
+    same_actors : SameActors old.board r.board
+    same_actors = actors-put child (Some (piece.Task (mark.Ready work.Eval))) old.board r.board (sym (ap actor_of_piece r.none)) r.put
 
     owned : Stands (record old { board = r.board }) → Stands (record old { owners = with_named old.owners child u; board = r.board })
     owned stands = owners-say-nothing (record old { board = r.board }) (with_named old.owners child u) stands

@@ -1,7 +1,11 @@
 -- What a unit comes to keeps what is kept standing.
 use Rattle.std.proofs.Common.{◌≡◌, ◌∙◌, ◌≤◌, ℕ, suc, ◌==◌, Bool, true, false, cond, length, length-append, List, [], ◌∷◌, ◌++◌, refl, sym, ap, subst, arith}
 use Rattle.std.specs.Option.{option_and_then, option_map, option_or}
+use Rattle.std.specs.List.{All}
+use Rattle.std.proofs.lemmas.List.Elements.{All-append, All-cons, All-nil}
 use Rattle.std.specs.Prelude.{Option, None, Some}
+use Rattle.actor_mailbox.specs.declared.message.Message.{Message}
+use Rattle.actor_mails.specs.Mails.{Mail, mail_at}
 use Rattle.core_syntax.specs.declared.node_id.NodeId.{NodeId}
 use Rattle.ref_store.proofs.StoreLaws.{above_committed, read_below}
 use Rattle.ref_store.specs.declared.version.Version.{Version}
@@ -12,20 +16,23 @@ use Rattle.serial_model.specs.declared.entry.Entry.TheVariants.{Run}
 use Rattle.serial_model.specs.declared.halt.Halt.{Halt}
 use Rattle.serial_model.specs.declared.halt.Halt.TheVariants as halt
 use Rattle.serial_model.specs.declared.request.Request.TheVariants as request
+use Rattle.serial_model.specs.declared.actor_state.ActorState.{ActorState}
 use Rattle.serial_model.specs.State.{UnitState, new_unit}
-use Rattle.serial_model.specs.Step.{answered, next_made, next_of, with_made}
+use Rattle.serial_model.specs.Step.{after_turn, answered, becoming, idle, next_made, next_of, with_made}
 use Rattle.shared_world.specs.declared.given.Given.{Given}
 use Rattle.shared_world.specs.rows.Pieces.{Ends, IsMarkedUnit, IsSet, IsUnitAt, Settles, mark_after}
-use Rattle.shared_world.specs.rows.Units.{Derefs, ForksIfAllowed, Joins, Tries, UnitGives}
+use Rattle.shared_world.specs.rows.Actors.{FinishesTurn, Sends, Spawns, actor_mark, actor_with, roused}
+use Rattle.shared_world.specs.rows.Units.{Becomes, Derefs, Finishes, ForksIfAllowed, Joins, Selves, Tries, UnitGives}
 use Rattle.shared_world.specs.Seen.{AttemptSeen}
-use Rattle.shared_world.specs.Shared.{Shared, finished_at, is_going, ref_now, state_at, unit_state}
+use Rattle.shared_world.proofs.ActorPieces.{SameActors, actor-no-unit, actor-put, actor_of_piece, actors-put, actors-set, not-same, roused-actor, unit-no-actor}
+use Rattle.shared_world.specs.Shared.{Shared, actor_of, finished_at, is_going, ref_now, state_at, unit_state}
 use Rattle.shared_world.specs.Stands.{IsMachine, Stands}
 use Rattle.shared_world.proofs.Live.{no-piece}
 use Rattle.shared_world.proofs.Standing.{Grows, above-next, ended, ref-committed, same-states, under-way}
-use Rattle.shared_world.proofs.States.{machines-put, machines-set, unit-put, unit-set}
+use Rattle.shared_world.proofs.States.{EachMachine, SameStates, machines-put, machines-set, roused-unit, states-put, unit-put, unit-set}
 use Rattle.task_fork_join.specs.Attempt.{Attempt}
 use Rattle.txn_snapshot.specs.SnapshotAnswer.{snapshot_of}
-use Rattle.unit_table.specs.Board.{Board, unit_at}
+use Rattle.unit_table.specs.Board.{Board, actor_at, piece_at, unit_at}
 use Rattle.unit_table.specs.declared.mark.Mark.{Mark}
 use Rattle.unit_table.specs.declared.mark.Mark.TheVariants as mark
 use Rattle.unit_table.specs.declared.mark.WaitOn.TheVariants as wait
@@ -40,13 +47,12 @@ use Rattle.world_model.proofs.Kept.{gave-keeps}
 use Rattle.world_model.specs.Gave as row
 use Rattle.world_model.specs.Gave.{Gave}
 use Rattle.world_model.specs.IsWorld.{IsWorld}
-use Rattle.world_model.proofs.rows.MovesOn.{there}
 use Rattle.world_model.specs.rows.Effects.{Stands as IsStill, moved_on, new_live}
 use Rattle.world_model.specs.rows.Endings as end_row
 use Rattle.world_model.specs.rows.Endings.{EndsRun, ended_by}
-use Rattle.serial_model.proofs.runs.LastTurns.{replay-sounder}
 use Rattle.value_core.specs.declared.code.Code.TheVariants as code
-use Rattle.world_model.specs.World.{LiveUnit, World, still, with_at}
+use Rattle.world_model.specs.Message.{settled as message_settled}
+use Rattle.world_model.specs.World.{LiveUnit, World, put_last, still, with_at}
 use Rattle.world_model.specs.World as world
 
 -- a unit that can do its next effect
@@ -111,15 +117,16 @@ module _ (old : Shared) (st : Stands old) (u : Name) (x : Unit) (here : IsHere o
       on false e so = ap (option_and_then (λ (x : UnitState). x.finished)) so ∙ is
 
   -- What changes with the step of a unit that has no attempt: its entry is appended, and where the pieces and the refs stand.
-  pub record IsStepped (versions : Named (List Version)) (b : Board) (bytes : List ℕ) (made : ℕ) (w2 : World) : Type 0 where
+  pub record IsStepped (versions : Named (List Version)) (b : Board) (mails : Mail) (bytes : List ℕ) (made : ℕ) (w2 : World) : Type 0 where
     pub machines : (q : Name) (x : Unit) → unit_at b q ≡ Some x → IsMachine old.setup x.machine
     pub is_world : IsWorld old.setup w2
     pub history : w2.history ≡ old.history ++ Run u ∷ []
     pub refs : (r : Name) → w2.refs r ≡ ref_now versions r
     pub units : (q : Name) → w2.units q ≡ option_map still (state_at b q)
-    pub actors : (a : Name) → w2.actors a ≡ w.actors a
+    pub actors : (a : Name) → w2.actors a ≡ actor_at b a
     pub taken : (a : Name) → w2.taken a ≡ w.taken a
-    pub mails : (a : Name) → w2.mails a ≡ w.mails a
+    pub mails_are : (a : Name) → w2.mails a ≡ mail_at mails a
+    pub definite : (a : Name) → All (λ (m : Message). m.depends ≡ None) (mail_at mails a)
     pub attempts : (v : Name) → w2.attempts v ≡ w.attempts v
     pub bytes_are : w2.bytes ≡ bytes
     pub made_is : w2.made ≡ made
@@ -149,9 +156,9 @@ module _ (old : Shared) (st : Stands old) (u : Name) (x : Unit) (here : IsHere o
     ended = is.ended;
   }
 
-  pub stands-stepped : (versions : Named (List Version)) (b : Board) (bytes : List ℕ) (made : ℕ) (w2 : World) → IsStepped versions b bytes made w2
-      → Stands (record old { history = old.history ++ Run u ∷ []; versions = versions; board = b; bytes = bytes; made = made })
-  stands-stepped versions b bytes made w2 is = record {
+  pub stands-stepped : (versions : Named (List Version)) (b : Board) (mails : Mail) (bytes : List ℕ) (made : ℕ) (w2 : World) → IsStepped versions b mails bytes made w2
+      → Stands (record old { history = old.history ++ Run u ∷ []; versions = versions; board = b; mails = mails; bytes = bytes; made = made })
+  stands-stepped versions b mails bytes made w2 is = record {
     formed = st.formed;
     world = w2;
     is_world = is.is_world;
@@ -159,37 +166,47 @@ module _ (old : Shared) (st : Stands old) (u : Name) (x : Unit) (here : IsHere o
       history = is.history;
       refs = is.refs;
       units = is.units;
-      actors = λ a. is.actors a ∙ st.seen.actors a;
+      actors = is.actors;
       taken = λ a. is.taken a ∙ st.seen.taken a;
-      mails = λ a. is.mails a ∙ st.seen.mails a;
+      mails = is.mails_are;
       attempts = λ going v. subst (AttemptSeen versions (named v old.attempts)) (sym (is.attempts v)) (seen-again versions (named v old.attempts) (w.attempts v) (is.reads v) (st.seen.attempts going v));
       bytes = is.bytes_are;
       made = is.made_is;
       end = is.end ∙ st.seen.end;
     };
     machines = is.machines;
-    attempts = λ going v tree there. under-way old (record old { history = old.history ++ Run u ∷ []; versions = versions; board = b; bytes = bytes; made = made }) v tree refl (is.stay v tree there) (is.reads v tree there) is.grows longer (st.attempts going v tree there);
+    attempts = λ going v tree there. under-way old (record old { history = old.history ++ Run u ∷ []; versions = versions; board = b; mails = mails; bytes = bytes; made = made }) v tree refl (is.stay v tree there) (is.reads v tree there) is.grows longer (st.attempts going v tree there);
     numbers = λ r k d in_range. let long = length-append old.history (Run u ∷ []) in let below = is.numbers r k d in_range in omega (arith, long, below);
+    definite = is.definite;
   }
 
+  -- pieces that are those that were there, but for actors
+  pub record IsBase (b : Board) : Type 0 where
+    pub states : SameStates old.board b
+    pub machines : EachMachine (IsMachine old.setup) b
+
+  same-base : IsBase old.board
+  same-base = record { states = λ q. refl; machines = st.machines }
+
   -- the unit goes on alone, with its entry
-  settled : (y : Unit) (after : UnitState) (b : Board) → IsUnitAt old.setup x y after (mark_after after.finished) → IsSet u (piece.Unit y) (mark_after after.finished) old.board b
-      → (versions : Named (List Version)) (bytes : List ℕ) (w2 : World) → IsWorld old.setup w2 → w2.history ≡ old.history ++ Run u ∷ [] → ((r : Name) → w2.refs r ≡ ref_now versions r)
-      → ((q : Name) → w2.units q ≡ with_at w.units u (Some (still after)) q) → ((a : Name) → w2.actors a ≡ w.actors a) → ((a : Name) → w2.taken a ≡ w.taken a) → ((a : Name) → w2.mails a ≡ w.mails a)
+  settled : (y : Unit) (after : UnitState) (b0 b : Board) → IsBase b0 → IsUnitAt old.setup x y after (mark_after after.finished) → IsSet u (piece.Unit y) (mark_after after.finished) b0 b
+      → (mails : Mail) → ((a : Name) → All (λ (m : Message). m.depends ≡ None) (mail_at mails a)) → (versions : Named (List Version)) (bytes : List ℕ) (w2 : World) → IsWorld old.setup w2 → w2.history ≡ old.history ++ Run u ∷ [] → ((r : Name) → w2.refs r ≡ ref_now versions r)
+      → ((q : Name) → w2.units q ≡ with_at w.units u (Some (still after)) q) → ((a : Name) → w2.actors a ≡ actor_at b0 a) → ((a : Name) → w2.taken a ≡ w.taken a) → ((a : Name) → w2.mails a ≡ mail_at mails a)
       → ((v : Name) → w2.attempts v ≡ w.attempts v) → w2.bytes ≡ bytes → w2.made ≡ old.made → w2.end ≡ w.end → ((tree : Attempt) → named u old.attempts ≡ Some tree → ⊥)
       → ((v : Name) (tree : Attempt) → named v old.attempts ≡ Some tree → (r : Name) → snapshot_of versions tree.snapshot r ≡ snapshot_of old.versions tree.snapshot r)
       → IsAbove (suc (suc (length old.history))) versions
-      → Stands (record old { history = old.history ++ Run u ∷ []; versions = versions; board = b; bytes = bytes })
-  settled y after b at set versions bytes w2 is_world history refs units actors taken mails attempts bytes_are made_is end none reads numbers =
-      stands-stepped versions b bytes old.made w2 (record {
-        machines = machines-set (IsMachine old.setup) u y (mark_after after.finished) old.board b at.machine set st.machines;
+      → Stands (record old { history = old.history ++ Run u ∷ []; versions = versions; board = b; mails = mails; bytes = bytes })
+  settled y after b0 b base at set mails definite versions bytes w2 is_world history refs units actors taken mails_are attempts bytes_are made_is end none reads numbers =
+      stands-stepped versions b mails bytes old.made w2 (record {
+        machines = machines-set (IsMachine old.setup) u y (mark_after after.finished) b0 b at.machine set base.machines;
         is_world = is_world;
         history = history;
         refs = refs;
         units = λ q. units q ∙ seen-unit after b states q;
-        actors = actors;
+        actors = λ a. actors a ∙ sym (actors-set u (piece.Unit y) (mark_after after.finished) b0 b refl (unit-no-actor b0 u unit (base.states u ∙ here.there)) set a);
         taken = taken;
-        mails = mails;
+        mails_are = mails_are;
+        definite = definite;
         attempts = attempts;
         bytes_are = bytes_are;
         made_is = made_is;
@@ -201,21 +218,23 @@ module _ (old : Shared) (st : Stands old) (u : Name) (x : Unit) (here : IsHere o
       })
     where
       states : (q : Name) → state_at b q ≡ cond (same_name q u) (Some after) (state_at old.board q)
-      states q = unit-set u y (mark_after after.finished) old.board b set q ∙ ap (λ k. cond (same_name q u) (Some k) (state_at old.board q)) at.state
+      states q =
+          unit-set u y (mark_after after.finished) b0 b set q ∙ ap (λ k. cond (same_name q u) (Some k) (state_at b0 q)) at.state
+          ∙ ap (cond (same_name q u) (Some after)) (base.states q)
 
   -- it goes on so, with nothing but its entry and what it printed
   plain : (after : UnitState) (text : List ℕ) (found : Given) (new : Shared) → Settles (record old { bytes = old.bytes ++ text }) u x after found new
       → IsWorld old.setup (moved_on (record w { bytes = w.bytes ++ text }) u after) → ((body : NodeId) (values : List Value) (at : Spot) → next_of old.setup unit ≡ halt.Ask (request.Dosync body values) at → ⊥) → Stands new
   plain after text found new r is_world other = subst Stands (sym r.others)
-      (settled r.unit after new.board r.stands r.set old.versions (old.bytes ++ text) (moved_on (record w { bytes = w.bytes ++ text }) u after) is_world (ap (λ h. h ++ Run u ∷ []) st.seen.history) st.seen.refs
-      (λ q. refl) (λ a. refl) (λ a. refl) (λ a. refl) (λ v. refl) (ap (λ b. b ++ text) st.seen.bytes) st.seen.made refl (no-attempt other) (λ v tree there r. refl) (above-next (suc (length old.history)) old.versions st.numbers))
+      (settled r.unit after old.board new.board same-base r.stands r.set old.mails st.definite old.versions (old.bytes ++ text) (moved_on (record w { bytes = w.bytes ++ text }) u after) is_world (ap (λ h. h ++ Run u ∷ []) st.seen.history) st.seen.refs
+      (λ q. refl) st.seen.actors (λ a. refl) st.seen.mails (λ v. refl) (ap (λ b. b ++ text) st.seen.bytes) st.seen.made refl (no-attempt other) (λ v tree there r. refl) (above-next (suc (length old.history)) old.versions st.numbers))
 
   -- it goes on so, with nothing but its entry
   quiet : (after : UnitState) (found : Given) (new : Shared) → Settles old u x after found new → IsWorld old.setup (moved_on w u after)
       → ((body : NodeId) (values : List Value) (at : Spot) → next_of old.setup unit ≡ halt.Ask (request.Dosync body values) at → ⊥) → Stands new
   quiet after found new r is_world other = subst Stands (sym r.others)
-      (settled r.unit after new.board r.stands r.set old.versions old.bytes (moved_on w u after) is_world (ap (λ h. h ++ Run u ∷ []) st.seen.history) st.seen.refs
-      (λ q. refl) (λ a. refl) (λ a. refl) (λ a. refl) (λ v. refl) st.seen.bytes st.seen.made refl (no-attempt other) (λ v tree there r. refl) (above-next (suc (length old.history)) old.versions st.numbers))
+      (settled r.unit after old.board new.board same-base r.stands r.set old.mails st.definite old.versions old.bytes (moved_on w u after) is_world (ap (λ h. h ++ Run u ∷ []) st.seen.history) st.seen.refs
+      (λ q. refl) st.seen.actors (λ a. refl) st.seen.mails (λ v. refl) st.seen.bytes st.seen.made refl (no-attempt other) (λ v tree there r. refl) (above-next (suc (length old.history)) old.versions st.numbers))
 
   -- a row of the law
   goes : (after : World) → Gave old.setup w (Some (Run u)) after → IsWorld old.setup after
@@ -238,7 +257,7 @@ module _ (old : Shared) (st : Stands old) (u : Name) (x : Unit) (here : IsHere o
   -- the unit stands where it did, with another mark
   marks : (m : Mark) (b : Board) → IsMarkedUnit old.setup u x m old.board b → Stands (record old { board = b })
   marks m b r = same-states old st b
-      (λ q. unit-set u r.unit m old.board b r.set q ∙ on q (same_name q u) refl) (machines-set (IsMachine old.setup) u r.unit m old.board b r.stands.machine r.set st.machines)
+      (λ q. unit-set u r.unit m old.board b r.set q ∙ on q (same_name q u) refl) (actors-set u (piece.Unit r.unit) m old.board b refl (unit-no-actor old.board u unit here.there) r.set) (machines-set (IsMachine old.setup) u r.unit m old.board b r.stands.machine r.set st.machines)
     where
       on : (q : Name) (c : Bool) → same_name q u ≡ c → cond c (Some (unit_state r.unit)) (state_at old.board q) ≡ state_at old.board q
       on q true e = ap (λ k. Some k) r.stands.state ∙ sym (ap (state_at old.board) (same_name-equal q u e) ∙ here.there)
@@ -263,8 +282,8 @@ module _ (old : Shared) (st : Stands old) (u : Name) (x : Unit) (here : IsHere o
   makes-ref : (v : Value) (at : Spot) → next_of old.setup unit ≡ halt.Ask (request.NewRef v) at → (found : Given) (new : Shared)
       → UnitGives old u x (halt.Ask (request.NewRef v) at) found new → Stands new
   makes-ref v at asks found new r = subst Stands (sym r.others)
-      (settled r.unit after new.board r.stands r.set versions old.bytes after_world is_world (ap (λ h. h ++ Run u ∷ []) st.seen.history) (one-read n v)
-      (λ q. refl) (λ a. refl) (λ a. refl) (λ a. refl) (λ v. refl) st.seen.bytes st.seen.made refl (no-attempt (λ body values spot e. let no = sym asks ∙ e in cc))
+      (settled r.unit after old.board new.board same-base r.stands r.set old.mails st.definite versions old.bytes after_world is_world (ap (λ h. h ++ Run u ∷ []) st.seen.history) (one-read n v)
+      (λ q. refl) st.seen.actors (λ a. refl) st.seen.mails (λ v. refl) st.seen.bytes st.seen.made refl (no-attempt (λ body values spot e. let no = sym asks ∙ e in cc))
       (λ q tree there ref. let way = st.attempts is_going_so q tree there in let within = way.within in read_below old.versions ((n, v) ∷ []) (suc (length old.history)) tree.snapshot tt (omega (arith, within)) ref)
       (above_committed old.versions versions ((n, v) ∷ []) (suc (length old.history)) tt refl st.numbers (suc (suc (length old.history))) (omega arith)))
     where
@@ -285,22 +304,23 @@ module _ (old : Shared) (st : Stands old) (u : Name) (x : Unit) (here : IsHere o
 
   -- the run ends
   ends : (e : End) (found : Given) (new : Shared) → Ends old u e found new → EndsRun old.setup w (Run u) e → Stands new
-  ends e found new r end = subst Stands (sym r.others) (ended old st u e new.board r.pieces (goes (ended_by w (Run u) e) (row.ends (Run u) e end)))
+  ends e found new r end = subst Stands (sym r.others) (ended old st (Run u) e new.board r.pieces (goes (ended_by w (Run u) e) (row.ends (Run u) e end)))
 
   forks : (body : NodeId) (values : List Value) (at : Spot) → next_of old.setup unit ≡ halt.Ask (request.Fork body values) at → (full : Bool) → (old.made == old.setup.limits.units) ≡ full
       → (found : Given) (new : Shared) → ForksIfAllowed old u x body values full found new → Stands new
   forks body values at asks true is found new r = ends ending.UnitsSpent found new r (end_row.full_fork u (still unit) body values at still-here asks (ap (λ n. n == old.setup.limits.units) st.seen.made ∙ is))
   forks body values at asks false is found new r = subst Stands (sym r.settles.others)
-      (stands-stepped old.versions new.board old.bytes (suc old.made) after_world (record {
+      (stands-stepped old.versions new.board old.mails old.bytes (suc old.made) after_world (record {
         machines = machines-set (IsMachine old.setup) u r.settles.unit (mark_after after.finished) r.board new.board r.settles.stands.machine r.settles.set
             (machines-put (IsMachine old.setup) child (Some (piece.Unit r.child)) old.board r.board (λ z e. let same : r.child ≡ z = cc in subst (λ (k : Unit). IsMachine old.setup k.machine) same r.begins.machine) r.put st.machines);
         is_world = goes after_world (row.forks u (still unit) body values at still-here asks (ap (λ n. n == old.setup.limits.units) st.seen.made ∙ is));
         history = ap (λ h. h ++ Run u ∷ []) st.seen.history;
         refs = st.seen.refs;
         units = λ q. live q (same_name q u) (same_name q child) (states q);
-        actors = λ a. refl;
+        actors = λ a. st.seen.actors a ∙ sym (actors a);
         taken = λ a. refl;
-        mails = λ a. refl;
+        mails_are = st.seen.mails;
+        definite = st.definite;
         attempts = λ v. refl;
         bytes_are = st.seen.bytes;
         made_is = ap suc st.seen.made;
@@ -325,6 +345,13 @@ module _ (old : Shared) (st : Stands old) (u : Name) (x : Unit) (here : IsHere o
           unit-set u r.settles.unit (mark_after after.finished) r.board new.board r.settles.set q
           ∙ ap (λ k. cond (same_name q u) (Some k) (state_at r.board q)) r.settles.stands.state
           ∙ ap (cond (same_name q u) (Some after)) (unit-put child r.child old.board r.board r.put q ∙ ap (λ k. cond (same_name q child) (Some k) (state_at old.board q)) r.begins.state)
+
+      actors : SameActors old.board new.board
+      actors a =
+          actors-set u (piece.Unit r.settles.unit) (mark_after after.finished) r.board new.board refl (put u ∙ unit-no-actor old.board u unit here.there) r.settles.set a ∙ put a
+        where
+          put : SameActors old.board r.board
+          put = actors-put child (Some (piece.Unit r.child)) old.board r.board (sym (ap actor_of_piece r.none)) r.put
 
       live : (q : Name) (c d : Bool) → state_at new.board q ≡ cond c (Some after) (cond d (Some (new_unit None body values)) (state_at old.board q))
           → cond c (Some (still after)) (cond d (Some (new_live body values)) (w.units q)) ≡ option_map still (state_at new.board q)
@@ -351,16 +378,108 @@ module _ (old : Shared) (st : Stands old) (u : Name) (x : Unit) (here : IsHere o
           let no : None ≡ Some v = sym (ap (option_and_then (λ (k : UnitState). k.finished)) (ap (state_at old.board) (same_name-equal f child is_child) ∙ no-child)) ∙ is in cc
       grown f v is false false is_u is_child e = ap (option_and_then (λ (k : UnitState). k.finished)) e ∙ is
 
-  -- no turn is there yet
-  no-turn : unit.actor ≡ None
-  no-turn = on unit.actor refl
+  sends : (to : Name) (args : List Value) (at : Spot) → next_of old.setup unit ≡ halt.Ask (request.Send to args) at → (found : Given) (new : Shared) → Sends old u x to args found new → Stands new
+  sends to args at asks found new r = subst Stands (sym r.settles.others)
+      (settled r.settles.unit after r.board new.board base r.settles.stands r.settles.set r.mails definite old.versions old.bytes after_world
+      (goes after_world (row.sends u (still unit) to args at still-here asks)) (ap (λ h. h ++ Run u ∷ []) st.seen.history) st.seen.refs
+      (λ q. refl) (λ a. st.seen.actors a ∙ sym (actors a)) (λ a. refl) (λ a. mails a (same_name a to) refl) (λ v. refl) st.seen.bytes st.seen.made refl
+      (no-attempt (λ body values spot e. let no = sym asks ∙ e in cc)) (λ v tree there r. refl) (above-next (suc (length old.history)) old.versions st.numbers))
     where
-      on : (actor : Option Name) → unit.actor ≡ actor → unit.actor ≡ None
-      on None is = is
-      on (Some a) is =
-          let sounder = replay-sounder old.setup st.formed w.history st.is_world.state st.is_world.replays in
-          let last = sounder.last u unit a (there old.setup w st.is_world.state u (still unit) st.is_world.stands still-here) is here.unfinished in
-          let no : None ≡ Some last.state = sym (st.seen.actors a) ∙ st.is_world.stands.actors a ∙ last.there in cc
+      after : UnitState
+      after = answered unit value.Nil
+
+      message : Message
+      message = message_settled u args
+
+      after_world : World
+      after_world = moved_on (record w { mails = put_last w to message }) u after
+
+      base : IsBase r.board
+      base = record {
+        states = states-put to (option_map roused (piece_at old.board to)) old.board r.board (ap (option_map unit_state) (roused-unit (piece_at old.board to))) r.rouses;
+        machines = machines-put (IsMachine old.setup) to (option_map roused (piece_at old.board to)) old.board r.board (λ z e. st.machines to z (sym (roused-unit (piece_at old.board to)) ∙ e)) r.rouses st.machines;
+      }
+
+      actors : SameActors old.board r.board
+      actors = actors-put to (option_map roused (piece_at old.board to)) old.board r.board (roused-actor (piece_at old.board to)) r.rouses
+
+      mails : (a : Name) (c : Bool) → same_name a to ≡ c → cond c (w.mails to ++ message ∷ []) (w.mails a) ≡ mail_at r.mails a
+      mails a true e = ap (λ ms. ms ++ message ∷ []) (st.seen.mails to) ∙ sym r.mailed.here ∙ ap (mail_at r.mails) (sym (same_name-equal a to e))
+      mails a false e = st.seen.mails a ∙ sym (r.mailed.others a (not-same a to e))
+
+      definite : (a : Name) → All (λ (m : Message). m.depends ≡ None) (mail_at r.mails a)
+      definite a = on (same_name a to) refl
+        where
+          on : (c : Bool) → same_name a to ≡ c → All (λ (m : Message). m.depends ≡ None) (mail_at r.mails a)
+          on true e = subst (λ q. All (λ (m : Message). m.depends ≡ None) (mail_at r.mails q)) (sym (same_name-equal a to e))
+              (subst (All (λ (m : Message). m.depends ≡ None)) (sym r.mailed.here)
+              (All-append (λ (m : Message). m.depends ≡ None) (mail_at old.mails to) (message ∷ []) (st.definite to) (All-cons (λ (m : Message). m.depends ≡ None) message [] refl (All-nil (λ (m : Message). m.depends ≡ None)))))
+          on false e = subst (All (λ (m : Message). m.depends ≡ None)) (sym (r.mailed.others a (not-same a to e))) (st.definite a)
+
+  spawns : (behaviour : ℕ) (state : List Value) (at : Spot) → next_of old.setup unit ≡ halt.Ask (request.Spawn behaviour state) at → (found : Given) (new : Shared) → Spawns old u x behaviour state found new → Stands new
+  spawns behaviour state at asks found new r = subst Stands (sym r.settles.others)
+      (settled r.settles.unit after r.board new.board base r.settles.stands r.settles.set old.mails st.definite old.versions old.bytes after_world
+      (goes after_world (row.spawns u (still unit) behaviour state at still-here asks)) (ap (λ h. h ++ Run u ∷ []) st.seen.history) st.seen.refs
+      (λ q. refl) (λ a. actors a (same_name a n) (actor-put n (record { state = idle behaviour state; mark = actor_mark false (mail_at old.mails n) }) old.board r.board r.put a)) (λ a. refl) st.seen.mails (λ v. refl) st.seen.bytes st.seen.made refl
+      (no-attempt (λ body values spot e. let no = sym asks ∙ e in cc)) (λ v tree there r. refl) (above-next (suc (length old.history)) old.versions st.numbers))
+    where
+      n : Name
+      n = next_made u unit
+
+      after : UnitState
+      after = answered (with_made unit) (value.Actor n)
+
+      after_world : World
+      after_world = moved_on (record w { actors = with_at w.actors n (Some (idle behaviour state)) }) u after
+
+      base : IsBase r.board
+      base = record {
+        states = states-put n (Some (actor_with (idle behaviour state) (mail_at old.mails n))) old.board r.board (sym (no-piece old.board n r.none)) r.put;
+        machines = machines-put (IsMachine old.setup) n (Some (actor_with (idle behaviour state) (mail_at old.mails n))) old.board r.board (λ z e. cc) r.put st.machines;
+      }
+
+      actors : (a : Name) (c : Bool) → actor_at r.board a ≡ cond c (Some (idle behaviour state)) (actor_at old.board a) → cond c (Some (idle behaviour state)) (w.actors a) ≡ actor_at r.board a
+      actors a true e = sym e
+      actors a false e = st.seen.actors a ∙ sym e
+
+  becomes : (behaviour : ℕ) (state : List Value) (at : Spot) → next_of old.setup unit ≡ halt.Ask (request.Become behaviour state) at → (actor : Option Name) → unit.actor ≡ actor → (found : Given) (new : Shared)
+      → Becomes old u x behaviour state at actor found new → Stands new
+  becomes behaviour state at asks None is found new r = ends (ending.Fault code.NoTurn at u) found new r (end_row.no_turn u (still unit) behaviour state at still-here asks is)
+  becomes behaviour state at asks (Some a) is found new r =
+      quiet (answered (becoming unit behaviour state) value.Nil) found new r (goes (moved_on w u (answered (becoming unit behaviour state) value.Nil)) (row.becomes u (still unit) behaviour state at a still-here asks is)) (λ body values spot e. let no = sym asks ∙ e in cc)
+
+  selves : (at : Spot) → next_of old.setup unit ≡ halt.Ask request.SelfActor at → (actor : Option Name) → unit.actor ≡ actor → (found : Given) (new : Shared) → Selves old u x at actor found new → Stands new
+  selves at asks None is found new r = ends (ending.Fault code.NoTurn at u) found new r (end_row.no_self u (still unit) at still-here asks is)
+  selves at asks (Some a) is found new r =
+      quiet (answered unit (value.Actor a)) found new r (goes (moved_on w u (answered unit (value.Actor a))) (row.selves u (still unit) at a still-here asks is)) (λ body values spot e. let no = sym asks ∙ e in cc)
+
+  finishes : (v : Value) → next_of old.setup unit ≡ halt.Value v → (actor : Option Name) → unit.actor ≡ actor → (found : Given) (new : Shared) → Finishes old u x v actor found new → Stands new
+  finishes v asks None is found new r =
+      quiet (record unit { finished = Some v }) found new r (goes (moved_on w u (record unit { finished = Some v })) (row.finishes u (still unit) v still-here asks is)) (λ body values spot e. let no = sym asks ∙ e in cc)
+  finishes v asks (Some a) is found new r = subst Stands (sym r.settles.others)
+      (settled r.settles.unit after r.board new.board base r.settles.stands r.settles.set old.mails st.definite old.versions old.bytes after_world
+      (goes after_world (row.finishes_turn u a (still unit) r.actor.state v still-here asks is (st.seen.actors a ∙ ap actor_of_piece r.there))) (ap (λ h. h ++ Run u ∷ []) st.seen.history) st.seen.refs
+      (λ q. refl) (λ q. actors q (same_name q a) (actor-put a (record { state = free; mark = actor_mark free.busy (mail_at old.mails a) }) old.board r.board r.freed q)) (λ q. refl) st.seen.mails (λ q. refl) st.seen.bytes st.seen.made refl
+      (no-attempt (λ body values spot e. let no = sym asks ∙ e in cc)) (λ q tree there k. refl) (above-next (suc (length old.history)) old.versions st.numbers))
+    where
+      free : ActorState
+      free = after_turn unit.becomes r.actor.state
+
+      after : UnitState
+      after = record unit { finished = Some v }
+
+      after_world : World
+      after_world = record (moved_on w u after) { actors = with_at w.actors a (Some free) }
+
+      base : IsBase r.board
+      base = record {
+        states = states-put a (Some (actor_with free (mail_at old.mails a))) old.board r.board (sym (actor-no-unit old.board a r.actor r.there)) r.freed;
+        machines = machines-put (IsMachine old.setup) a (Some (actor_with free (mail_at old.mails a))) old.board r.board (λ z e. cc) r.freed st.machines;
+      }
+
+      actors : (q : Name) (c : Bool) → actor_at r.board q ≡ cond c (Some free) (actor_at old.board q) → cond c (Some free) (w.actors q) ≡ actor_at r.board q
+      actors q true e = sym e
+      actors q false e = st.seen.actors q ∙ sym e
 
   -- what a unit comes to keeps what is kept standing
   pub unit-keeps : (h : Halt) → next_of old.setup unit ≡ h → (found : Given) (new : Shared) → UnitGives old u x h found new
@@ -373,10 +492,10 @@ module _ (old : Shared) (st : Stands old) (u : Name) (x : Unit) (here : IsHere o
   unit-keeps (halt.Ask (request.Fork body values) at) asks found new r tries = forks body values at asks (old.made == old.setup.limits.units) refl found new r
   unit-keeps (halt.Ask (request.Join f) at) asks found new r tries = joins f at asks (finished_at old.board f) refl found new r
   unit-keeps (halt.Ask (request.Dosync body values) at) asks found new r tries = tries (named u old.attempts) refl body values at asks r
-  unit-keeps (halt.Ask (request.Spawn b args) at) asks found new r tries = absurd r
-  unit-keeps (halt.Ask (request.Send a args) at) asks found new r tries = absurd r
-  unit-keeps (halt.Ask (request.Become b args) at) asks found new r tries = absurd r
-  unit-keeps (halt.Ask request.SelfActor at) asks found new r tries = absurd r
-  unit-keeps (halt.Value v) asks found new r tries = quiet (record unit { finished = Some v }) found new r (goes (moved_on w u (record unit { finished = Some v })) (row.finishes u (still unit) v still-here asks no-turn)) (λ body values spot e. let no = sym asks ∙ e in cc)
+  unit-keeps (halt.Ask (request.Spawn b state) at) asks found new r tries = spawns b state at asks found new r
+  unit-keeps (halt.Ask (request.Send to args) at) asks found new r tries = sends to args at asks found new r
+  unit-keeps (halt.Ask (request.Become b state) at) asks found new r tries = becomes b state at asks (actor_of x.kind) refl found new r
+  unit-keeps (halt.Ask request.SelfActor at) asks found new r tries = selves at asks (actor_of x.kind) refl found new r
+  unit-keeps (halt.Value v) asks found new r tries = finishes v asks (actor_of x.kind) refl found new r
   unit-keeps (halt.Fault failed at) asks found new r tries = ends (ending.Fault failed at u) found new r (end_row.fault u (still unit) failed at still-here asks)
   unit-keeps halt.Spent asks found new r tries = ends (ending.Spent u) found new r (end_row.spent u (still unit) still-here asks)

@@ -6,9 +6,10 @@ use Rattle.shared_world.specs.declared.given.Given.TheVariants as given
 use Rattle.shared_world.specs.Returned.{IsLive, Returned}
 use Rattle.shared_world.specs.rows.Pieces.{ClaimsEnd}
 use Rattle.shared_world.specs.rows.Tasks.{TaskGives}
+use Rattle.shared_world.specs.rows.Turns.{GaveActor}
 use Rattle.shared_world.specs.rows.Units.{UnitGives}
 use Rattle.shared_world.specs.Shared.{claimed, Shared, unit_state}
-use Rattle.task_fork_join.specs.Attempt.{Attempt, machine_of}
+use Rattle.task_fork_join.specs.Attempt.{Attempt, end_at, machine_of}
 use Rattle.unit_table.specs.Board.{Board, SamePieces, piece_at, unit_at}
 use Rattle.unit_table.specs.declared.mark.Mark.{Mark}
 use Rattle.unit_table.specs.declared.piece.Piece.TheVariants as piece
@@ -48,7 +49,7 @@ pub record GaveTask (old : Shared) (name : Name) (found : Given) (new : Shared) 
   pub of : named name old.owners ≡ Some owner
   pub unit_there : unit_at old.board owner ≡ Some unit
   pub attempt : named owner old.attempts ≡ Some tree
-  pub gives : TaskGives old owner unit name tree (machine_of tree name) found new
+  pub gives : TaskGives old owner unit name tree (end_at tree) (machine_of tree name) found new
   pub claims : ClaimsEnd (gone_with old.board new.board name) old new
 
 -- What the world answers and is afterwards, for a result.
@@ -56,3 +57,4 @@ pub data Gave (old : Shared) (result : Returned) (found : Given) (new : Shared) 
   stale : ((name : Name) → IsLive old result name → ⊥) → found ≡ given.Stale → IsUnclaimed result.ticket old new → Gave old result found new
   unit : (name : Name) → IsLive old result name → GaveUnit old name found new → Gave old result found new
   task : (name : Name) → IsLive old result name → GaveTask old name found new → Gave old result found new
+  actor : (name : Name) → IsLive old result name → GaveActor old name found new → Gave old result found new

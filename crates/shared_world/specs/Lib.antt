@@ -1,7 +1,10 @@
 pub mod Gave
+pub mod HeldUp
 pub mod Later
 pub mod Laws
+pub mod Marks
 pub mod Opening
+pub mod Rest
 pub mod Returned
 pub mod Seen
 pub mod Shared

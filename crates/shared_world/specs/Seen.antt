@@ -1,10 +1,12 @@
 -- The world that is seen in what is kept: what the law of the rows is about.
 use Rattle.std.specs.Prelude.{◌≡◌, true, List, [], Option, None, Some}
 use Rattle.std.specs.Option.{option_map}
+use Rattle.actor_mails.specs.Mails.{mail_at}
 use Rattle.ref_store.specs.declared.version.Version.{Version}
 use Rattle.shared_world.specs.Shared.{Shared, is_going, ref_now, state_at}
 use Rattle.task_fork_join.specs.Attempt.{Attempt}
 use Rattle.txn_snapshot.specs.SnapshotAnswer.{snapshot_of}
+use Rattle.unit_table.specs.Board.{actor_at}
 use Rattle.value_core.specs.Named.{Name, Named, named}
 use Rattle.world_model.specs.World as world
 use Rattle.world_model.specs.World.{LiveUnit, World, still}
@@ -28,14 +30,15 @@ AttemptSeen versions None None = Unit {0}
 AttemptSeen versions (Some tree) (Some tried) = IsSeenAttempt versions tree tried
 AttemptSeen versions _ _ = ⊥
 
--- The world is what is kept, seen by name; no message is there yet. Of attempts nothing is said once the run has ended.
+-- The world is what is kept, seen by name; no turn is begun ahead of the history. Of attempts nothing is said once the run has
+-- ended.
 pub record IsSeen (s : Shared) (w : World) : Type 0 where
   pub history : w.history ≡ s.history
   pub refs : (r : Name) → w.refs r ≡ ref_now s.versions r
   pub units : (u : Name) → w.units u ≡ live_at s u
-  pub actors : (a : Name) → w.actors a ≡ None
+  pub actors : (a : Name) → w.actors a ≡ actor_at s.board a
   pub taken : (a : Name) → w.taken a ≡ []
-  pub mails : (a : Name) → w.mails a ≡ []
+  pub mails : (a : Name) → w.mails a ≡ mail_at s.mails a
   pub attempts : is_going s.end ≡ true → (u : Name) → AttemptSeen s.versions (named u s.attempts) (w.attempts u)
   pub bytes : w.bytes ≡ s.bytes
   pub made : w.made ≡ s.made

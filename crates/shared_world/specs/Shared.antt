@@ -2,6 +2,7 @@
 use Rattle.std.specs.Prelude.{ℕ, List, Option, None, Some, Bool, true, false, ◌&&◌, refl, if◌then◌else◌}
 use Rattle.std.specs.Coded.{Coded, code_by, coded×, coded_list, coded_option, coded_ℕ}
 use Rattle.std.specs.Option.{option_and_then, option_map}
+use Rattle.actor_mails.specs.Mails.{Mail, mail_code}
 use Rattle.core_syntax.specs.Table.{Table}
 use Rattle.core_syntax.specs.contracts.program.Program as program
 use Rattle.eval_step.specs.Evaluation.{Evaluation}
@@ -15,7 +16,7 @@ use Rattle.serial_model.specs.contracts.limits.Limits as limits
 use Rattle.serial_model.specs.declared.end.End.{End}
 use Rattle.serial_model.specs.declared.entry.Entry.{Entry}
 use Rattle.serial_model.specs.Limits.{Budget}
-use Rattle.serial_model.specs.State.{Setup, UnitState}
+use Rattle.serial_model.specs.State.{Becoming, Setup, UnitState}
 use Rattle.task_fork_join.specs.Attempt.{Attempt, attempt_code, machine_of}
 use Rattle.unit_table.specs.Board.{Board, board_code, is_ready, lent_to, mark_at, piece_at, unit_at}
 use Rattle.unit_table.specs.declared.mark.Mark.{Mark}
@@ -23,6 +24,7 @@ use Rattle.unit_table.specs.declared.mark.Mark.TheVariants as mark
 use Rattle.unit_table.specs.declared.mark.Work.{Work}
 use Rattle.unit_table.specs.declared.piece.Piece.{Piece}
 use Rattle.unit_table.specs.declared.piece.Piece.TheVariants as piece
+use Rattle.unit_table.specs.declared.unit.Becoming.{Becoming as Turned}
 use Rattle.unit_table.specs.declared.unit.Unit.{Unit}
 use Rattle.unit_table.specs.declared.unit.UnitKind.{UnitKind}
 use Rattle.unit_table.specs.declared.unit.UnitKind.TheVariants as kind
@@ -30,14 +32,15 @@ use Rattle.value_core.specs.declared.ticket.Ticket.{Ticket}
 use Rattle.value_core.specs.declared.value.Value.{Value}
 use Rattle.value_core.specs.Named.{Name, Named, named}
 
--- What is run; the entries so far; the versions of refs; the pieces with their marks and claims; the attempt of each unit that
--- has one, and of each task the unit whose attempt it is of; the bytes printed; the number of units made; and the end, where
--- one is set.
+-- What is run; the entries so far; the versions of refs; the pieces with their marks and claims; the mail of each actor; the
+-- attempt of each unit that has one, and of each task the unit whose attempt it is of; the bytes printed; the number of units
+-- made; and the end, where one is set.
 pub record Shared : Type 0 where
   pub setup : Setup
   pub history : List Entry
   pub versions : Named (List Version)
   pub board : Board
+  pub mails : Mail
   pub attempts : Named Attempt
   pub owners : Named Name
   pub bytes : List ℕ
@@ -47,13 +50,13 @@ pub record Shared : Type 0 where
 -- it is stored as its parts
 abbrev pub shared_code : Coded Shared
 shared_code =
-    code_by ((Table × Budget) × (List Entry × (Named (List Version) × (Board × (Named Attempt × (Named Name × (List ℕ × (ℕ × Option End))))))))
+    code_by ((Table × Budget) × (List Entry × (Named (List Version) × (Board × (Mail × (Named Attempt × (Named Name × (List ℕ × (ℕ × Option End)))))))))
     (coded× (coded× (program.the_row).coded (limits.the_row).coded) (coded× (coded_list (entry.the_row).coded)
-    (coded× (coded_list (coded× (coded_list coded_ℕ) (coded_list (version.the_row).coded))) (coded× board_code
+    (coded× (coded_list (coded× (coded_list coded_ℕ) (coded_list (version.the_row).coded))) (coded× board_code (coded× mail_code
     (coded× (coded_list (coded× (coded_list coded_ℕ) attempt_code)) (coded× (coded_list (coded× (coded_list coded_ℕ) (coded_list coded_ℕ)))
-    (coded× (coded_list coded_ℕ) (coded× coded_ℕ (coded_option (ending.the_row).coded)))))))))
-    (λ s. ((s.setup.program, s.setup.limits), (s.history, (s.versions, (s.board, (s.attempts, (s.owners, (s.bytes, (s.made, s.end)))))))))
-    (λ p. record { setup = record { program = p.0.0; limits = p.0.1 }; history = p.1.0; versions = p.1.1.0; board = p.1.1.1.0; attempts = p.1.1.1.1.0; owners = p.1.1.1.1.1.0; bytes = p.1.1.1.1.1.1.0; made = p.1.1.1.1.1.1.1.0; end = p.1.1.1.1.1.1.1.1 })
+    (coded× (coded_list coded_ℕ) (coded× coded_ℕ (coded_option (ending.the_row).coded))))))))))
+    (λ s. ((s.setup.program, s.setup.limits), (s.history, (s.versions, (s.board, (s.mails, (s.attempts, (s.owners, (s.bytes, (s.made, s.end))))))))))
+    (λ p. record { setup = record { program = p.0.0; limits = p.0.1 }; history = p.1.0; versions = p.1.1.0; board = p.1.1.1.0; mails = p.1.1.1.1.0; attempts = p.1.1.1.1.1.0; owners = p.1.1.1.1.1.1.0; bytes = p.1.1.1.1.1.1.1.0; made = p.1.1.1.1.1.1.1.1.0; end = p.1.1.1.1.1.1.1.1.1 })
     (λ _. refl)
 
 -- no end is set
@@ -76,6 +79,10 @@ actor_of kind.Main = None
 actor_of kind.Plain = None
 actor_of (kind.Turn actor) = Some actor
 
+-- what an actor becomes, as the meaning has it
+abbrev pub becoming_of : Turned → Becoming
+becoming_of next = record { behaviour = next.behaviour; state = next.state }
+
 -- a unit as the meaning has it
 abbrev pub unit_state : Unit → UnitState
 unit_state x = record {
@@ -84,7 +91,7 @@ unit_state x = record {
   values = x.machine.values;
   answers = x.machine.answers;
   made = x.made;
-  becomes = None;
+  becomes = option_map becoming_of x.becomes;
   finished = finished_by x.mark;
 }
 

@@ -1,5 +1,7 @@
 -- What is kept stands for the replay of its history.
-use Rattle.std.specs.Prelude.{◌≡◌, ◌≤◌, false, true, suc, List, length, Some}
+use Rattle.std.specs.Prelude.{◌≡◌, ◌≤◌, false, true, suc, All, List, length, None, Some}
+use Rattle.actor_mailbox.specs.declared.message.Message.{Message}
+use Rattle.actor_mails.specs.Mails.{mail_at}
 use Rattle.eval_step.specs.Evaluation.{Evaluation, IsOf}
 use Rattle.ref_store.specs.Store.{IsAbove}
 use Rattle.serial_model.specs.declared.halt.Halt.TheVariants as halt
@@ -51,7 +53,7 @@ pub record IsUnderWay (s : Shared) (u : Name) (tree : Attempt) : Type 0 where
   pub within : tree.snapshot ≤ length s.history
 
 -- What is kept is a world that stands for the replay of its history; each machine evaluates what its unit is; each attempt runs
--- the transaction of its unit; and no version is newer than the history.
+-- the transaction of its unit; no version is newer than the history; and each message that waits is settled.
 pub record Stands (s : Shared) : Type 0 where
   pub formed : IsWellFormed s.setup.program
   pub world : World
@@ -60,3 +62,4 @@ pub record Stands (s : Shared) : Type 0 where
   pub machines : (u : Name) (x : Unit) → unit_at s.board u ≡ Some x → IsMachine s.setup x.machine
   pub attempts : is_going s.end ≡ true → (u : Name) (tree : Attempt) → named u s.attempts ≡ Some tree → IsUnderWay s u tree
   pub numbers : IsAbove (suc (length s.history)) s.versions
+  pub definite : (a : Name) → All (λ (m : Message). m.depends ≡ None) (mail_at s.mails a)

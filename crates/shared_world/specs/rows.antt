@@ -1,4 +1,6 @@
+pub mod Actors
 pub mod Attempts
 pub mod Pieces
 pub mod Tasks
+pub mod Turns
 pub mod Units

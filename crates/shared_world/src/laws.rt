@@ -1,5 +1,5 @@
 //! Laws of the world as it is kept.
-ghost use Rattle.shared_world.specs.Laws.{GaveGrows, GaveKeeps, OpeningStands};
+ghost use Rattle.shared_world.specs.Laws.{GaveGrows, GaveKeeps, GaveMarks, OpeningMarks, OpeningStands, OthersAreReady, OverAtRest};
 
 /// Whatever a result that is given back comes to, what is kept stands for the replay of its history afterwards.
 pub fn gave_keeps()
@@ -14,4 +14,25 @@ pub fn gave_grows()
 /// Main alone stands for the empty history.
 pub fn opening_stands()
     ensures { OpeningStands }
+{}
+
+/// Whatever a result that is given back comes to, the marks of the pieces are right afterwards where they were before.
+pub fn gave_marks()
+    ensures { GaveMarks }
+{}
+
+/// The marks of main alone are right.
+pub fn opening_marks()
+    ensures { OpeningMarks }
+{}
+
+/// Something can be done with each piece that is not claimed, not finished, and waits for nothing that is to come, but for an actor that
+/// has a turn or no mail.
+pub fn others_are_ready()
+    ensures { OthersAreReady }
+{}
+
+/// While no end is set the run is over exactly where each unit is finished and nobody has mail.
+pub fn over_at_rest()
+    ensures { OverAtRest }
 {}

@@ -6,4 +6,6 @@ mod given;
 mod laws;
 
 pub use given::Given;
-pub use laws::{gave_grows, gave_keeps, opening_stands};
+pub use laws::{
+    gave_grows, gave_keeps, gave_marks, opening_marks, opening_stands, others_are_ready,
+};

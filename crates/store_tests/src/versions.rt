@@ -1,4 +1,4 @@
-ghost use Rattle.std.specs.Prelude.{◌<◌, ℕ, OnOk};
+ghost use Rattle.std.specs.Prelude.{◌<◌, ℕ, IfOk, OnOk};
 ghost use Rattle.ref_store.specs.Store.{IsAbove};
 
 use ref_store::{Store, Writes};
@@ -38,7 +38,9 @@ fn integer_at(store: &Store, name: &Name, number: u64) -> Option<i64> {
 }
 
 /// The ref is 10 from the commit 1 on, 20 from 2 on and 30 from 3 on.
-fn three_versions(alloc: Global, name: &Name) -> Result<Store, AllocError> {
+fn three_versions(alloc: Global, name: &Name) -> Result<Store, AllocError>
+    ensures { IfOk result (λ store. (later : ℕ) → 3 < later → IsAbove later store.versions) }
+{
     let mut store = Store::new(alloc);
     set_at(alloc, &mut store, name, 10, 1)?;
     set_at(alloc, &mut store, name, 20, 2)?;
@@ -54,6 +56,50 @@ fn a_prune_keeps_two_of_three(alloc: Global) -> Result<bool, AllocError> {
         integer_at(&store, &name, 1).is_none()
             && integer_at(&store, &name, 2) == Some(20)
             && integer_at(&store, &name, 3) == Some(30),
+    )
+}
+
+/// What the ref is at 1, 2 and 3.
+fn first_three(store: &Store, name: &Name) -> (Option<i64>, Option<i64>, Option<i64>) {
+    (
+        integer_at(store, name, 1),
+        integer_at(store, name, 2),
+        integer_at(store, name, 3),
+    )
+}
+
+// With 1 and 2 live all three versions stay, with 2 the last two, and with none the newest.
+fn each_prune_looks_again(alloc: Global) -> Result<bool, AllocError> {
+    let name = ref_of(alloc, 0)?;
+    let mut store = three_versions(alloc, &name)?;
+    store.prune(&[1, 2]);
+    let with_two = first_three(&store, &name);
+    store.prune(&[2]);
+    let with_one = first_three(&store, &name);
+    store.prune(&[]);
+    let with_none = first_three(&store, &name);
+    Ok(
+        with_two == (Some(10), Some(20), Some(30))
+            && with_one == (None, Some(20), Some(30))
+            && with_none == (None, None, Some(30)),
+    )
+}
+
+// The ref 0 has one version left, and gets another one; the ref 1 has had one version all the time.
+fn a_ref_comes_back(alloc: Global) -> Result<bool, AllocError> {
+    let (name, other) = (ref_of(alloc, 0)?, ref_of(alloc, 1)?);
+    let mut store = three_versions(alloc, &name)?;
+    store.prune(&[]);
+    set_at(alloc, &mut store, &other, 5, 4)?;
+    set_at(alloc, &mut store, &name, 40, 5)?;
+    store.prune(&[4]);
+    let with_one = (integer_at(&store, &name, 4), integer_at(&store, &name, 5));
+    store.prune(&[]);
+    let with_none = (integer_at(&store, &name, 4), integer_at(&store, &name, 5));
+    Ok(
+        with_one == (Some(30), Some(40))
+            && with_none == (None, Some(40))
+            && integer_at(&store, &other, 4) == Some(5),
     )
 }
 
@@ -78,6 +124,18 @@ fn another_ref_has_nothing(alloc: Global) -> Result<bool, AllocError> {
 #[test]
 fn a_prune_keeps_what_is_read_at_a_live_number_and_the_newest(rt: HostRuntime) -> Result<(), Fail> {
     assert!(rt; a_prune_keeps_two_of_three(rt.alloc())?);
+    Ok(())
+}
+
+#[test]
+fn each_prune_keeps_what_its_live_numbers_read(rt: HostRuntime) -> Result<(), Fail> {
+    assert!(rt; each_prune_looks_again(rt.alloc())?);
+    Ok(())
+}
+
+#[test]
+fn a_ref_that_was_pruned_to_one_version_is_pruned_again(rt: HostRuntime) -> Result<(), Fail> {
+    assert!(rt; a_ref_comes_back(rt.alloc())?);
     Ok(())
 }
 

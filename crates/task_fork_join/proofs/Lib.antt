@@ -1,3 +1,4 @@
+pub mod Acts
 pub mod Begins
 pub mod Closes
 pub mod Ends
@@ -8,4 +9,5 @@ pub mod KeptTasks
 pub mod Members
 pub mod Replying
 pub mod Staying
+pub mod StepShapes
 pub mod Steps

@@ -1,5 +1,6 @@
 -- What a step does to the task that takes it.
-use Rattle.std.specs.Prelude.{◌≡◌, List, [], ◌∷◌, ◌++◌, Option, Some, is_some, if◌then◌else◌}
+use Rattle.std.specs.Prelude.{◌≡◌, Bool, true, false, List, [], ◌∷◌, ◌++◌, Option, None, Some, is_some, if◌then◌else◌}
+use Rattle.std.specs.Option.{option_map}
 use Rattle.core_syntax.specs.Table.{Table}
 use Rattle.eval_step.specs.Evaluation.{Evaluation, IsOf, IsSameTask}
 use Rattle.serial_model.specs.declared.answer.Answer.{Answer}
@@ -14,10 +15,16 @@ use Rattle.task_fork_join.specs.declared.task.Task.{Task}
 use Rattle.txn_snapshot.specs.declared.answered.Answered.{Answered}
 use Rattle.txn_snapshot.specs.declared.answered.Answered.TheVariants as answered
 use Rattle.txn_snapshot.specs.Reads.{with_read}
-use Rattle.txn_snapshot.specs.SnapshotAnswer.{replies}
+use Rattle.txn_snapshot.specs.SnapshotAnswer.{answer_of, replies}
 use Rattle.txn_snapshot.specs.SnapshotTask.{SnapshotTask, private}
 use Rattle.value_core.specs.declared.value.Value.{Value as Datum}
 use Rattle.value_core.specs.Named.{Name, Named, named, IsChanged}
+
+-- whether the step waits for a finish, or for a ref
+abbrev pub is_held_back : Stepped → Bool
+is_held_back (stepped.WaitJoin future) = true
+is_held_back (stepped.NotInSnapshot ref) = true
+is_held_back _ = false
 
 -- the task is there, and else as it was
 abbrev pub Gone : KeptStage → Task → Task → Type 0
@@ -26,6 +33,17 @@ Gone stage old new = new ≡ record old { stage = stage }
 -- it has done this and is there, and else as it was
 abbrev pub Acted : SnapshotTask → KeptStage → Task → Task → Type 0
 Acted log stage old new = new ≡ record old { log = log; stage = stage }
+
+-- its log has answered the request on these refs, and it goes on with that machine, and is else as it was
+pub record HasActed (refs : Name → Option Datum) (asked : Request) (machine : Evaluation) (old new : Task) : Type 0 where
+  pub reply : Answered
+  pub log : SnapshotTask
+  pub replies_so : replies refs old.log asked ≡ Some (reply, log)
+  pub acted : Acted log (kept.Going machine) old new
+
+-- the log of the task of that name is to answer the request on these refs so
+abbrev pub IsForeseen : (Name → Option Datum) → Name → Request → Answer → Named Task → Type 0
+IsForeseen refs name asked given tasks = (t : Task) → named name tasks ≡ Some t → option_map answer_of (replies refs t.log asked) ≡ Some (answered.Now given)
 
 -- it has done this, knows these, and is there
 abbrev pub HasParts : Parts → KeptStage → Task → Task → Type 0
@@ -53,6 +71,11 @@ pub record IsWaiting (name : Name) (moved : Evaluation) (wait : Stepped) (old ne
 abbrev pub noted : SnapshotTask → Request → List Name → List Name
 noted task (request.Deref ref) reads = if is_some (private task ref) then reads else with_read reads ref
 noted task _ reads = reads
+
+-- these refs, and that one where there is one
+abbrev pub with_one : Option Name → List Name → List Name
+with_one None reads = reads
+with_one (Some ref) reads = with_read reads ref
 
 -- the task was given the answer of its log, and what it did and read is kept
 pub record IsReplied (name : Name) (moved : Evaluation) (asked : Request) (given : Answer) (log : SnapshotTask) (old : Named Task) (reads : List Name) (new : Named Task) (more : List Name) (found : Stepped) : Type 0 where

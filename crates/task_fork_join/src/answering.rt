@@ -1,11 +1,11 @@
 // Requests that the log of a task answers.
-ghost use Rattle.std.specs.Prelude.{◌≡◌, IfOk, OnErr, OnOk, Some};
+ghost use Rattle.std.specs.Prelude.{◌≡◌, ◌<◌, List, IfOk, OnErr};
 ghost use Rattle.std.specs.Option.{IsSome};
 ghost use Rattle.eval_step.specs.Evaluation.{IsAsking};
 ghost use Rattle.serial_model.specs.declared.request.Request.TheVariants as request_of;
-ghost use Rattle.task_fork_join.specs.Stepping.{noted, IsActed, IsReplied};
-ghost use Rattle.txn_snapshot.specs.SnapshotAnswer.{replies, snapshot_of, IsAnswerable};
-ghost use Rattle.value_core.specs.Named.{named};
+ghost use Rattle.task_fork_join.specs.Stepping.{noted, with_one, IsActed, IsForeseen};
+ghost use Rattle.txn_snapshot.specs.SnapshotAnswer.{snapshot_of, IsAnswerable};
+ghost use Rattle.value_core.specs.Named.{Name as Called, named};
 
 use crate::Stepped;
 use crate::copies::give;
@@ -18,13 +18,6 @@ use std::alloc::{AllocError, Global};
 use std::collections::BTreeMap;
 use txn_snapshot::{Answered, Reads, TaskLog};
 use value_core::Name;
-
-/// What a log answers, and the log after it.
-#[derive(Drop)]
-pub(crate) struct Replied {
-    answered: Answered,
-    log: TaskLog,
-}
 
 /// The task of that name is answered by its log, or waits for a ref that the snapshot does not have.
 pub(crate) fn answer(
@@ -44,15 +37,13 @@ pub(crate) fn answer(
     ensures same { OnErr result (tasks.new.entries ≡ tasks.old.entries) }
     ensures unread { OnErr result (reads.new.items ≡ reads.old.items) }
 {
-    let Replied { answered, log } = reply(
-        alloc,
-        &task_of(tasks, name).log,
-        request,
-        store,
-        snapshot,
-    )?;
-    match answered {
-        Answered::Now(given) => go_on(tasks, reads, alloc, name, moved, request, given, log),
+    let foreseen = task_of(tasks, name)
+        .log
+        .foresee(alloc, request, store, snapshot)?;
+    match foreseen {
+        Answered::Now(given) => go_on(
+            tasks, reads, alloc, name, moved, given, request, store, snapshot,
+        ),
         Answered::NotInSnapshot(reference) => {
             go(tasks, name, Stage::Going(moved));
             Ok(Stepped::NotInSnapshot(reference))
@@ -60,70 +51,63 @@ pub(crate) fn answer(
     }
 }
 
-/// What the log answers, and the log after it.
-fn reply(
-    alloc: Global,
-    log: &TaskLog,
-    request: &Request,
-    store: &Store,
-    snapshot: u64,
-) -> Result<Replied, AllocError>
-    requires { IsAnswerable request.now }
-    ensures { IfOk result (λ found. replies (snapshot_of store.now.versions snapshot) log.now request.now ≡ Some (found.answered, found.log)) }
-{
-    let mut after = log.copy(alloc)?;
-    let answered = after.answer(alloc, request, store, snapshot)?;
-    Ok(Replied {
-        answered,
-        log: after,
-    })
-}
-
-/// The task of that name goes on with the answer, and has done that.
+/// The task of that name goes on with the answer, which is that of its log. What takes memory comes first, so that nothing is
+/// to be undone.
 fn go_on(
     tasks: &mut BTreeMap<Name, Task>,
     reads: &mut Reads,
     alloc: Global,
     name: &Name,
     moved: Machine,
-    request: &Request,
     given: Answer,
-    log: TaskLog,
+    request: &Request,
+    store: &Store,
+    snapshot: u64,
 ) -> Result<Stepped, AllocError>
+    requires answerable { IsAnswerable request.now }
     requires there { IsSome (named name.now tasks.old.entries) }
     requires asking { IsAsking moved }
-    ensures replied { IfOk result (IsReplied name.now moved request.now given log tasks.old.entries reads.old.items tasks.new.entries reads.new.items) }
+    requires given { IsForeseen (snapshot_of store.now.versions snapshot) name.now request.now given tasks.old.entries }
+    ensures acted { IfOk result (IsActed (snapshot_of store.now.versions snapshot) name.now moved request.now tasks.old.entries reads.old.items tasks.new.entries reads.new.items) }
     ensures same { OnErr result (tasks.new.entries ≡ tasks.old.entries) }
     ensures unread { OnErr result (reads.new.items ≡ reads.old.items) }
 {
+    let read = read_of(alloc, &task_of(tasks, name).log, request)?;
+    reads.reserve(1)?;
     let machine = give(alloc, moved, given)?;
-    note(reads, alloc, &task_of(tasks, name).log, request)?;
-    act(tasks, name, log, Stage::Going(machine));
+    act(tasks, alloc, name, machine, request, store, snapshot)?;
+    note(reads, read);
     Ok(Stepped::Now)
 }
 
-/// Counts the ref of a deref as read, where the task has no value of it of its own.
-fn note(
-    reads: &mut Reads,
-    alloc: Global,
-    log: &TaskLog,
-    request: &Request,
-) -> Result<(), AllocError>
-    ensures noted { OnOk result (reads.new.items ≡ noted log.now request.now reads.old.items) }
-    ensures same { OnErr result (reads.new.items ≡ reads.old.items) }
+/// The ref of a deref, where the task has no value of it of its own, so that it counts as read.
+fn read_of(alloc: Global, log: &TaskLog, request: &Request) -> Result<Option<Name>, AllocError>
+    ensures { IfOk result (λ read. (reads : List Called) → noted log.now request.now reads ≡ with_one read reads) }
 {
     match request {
-        Request::Deref(name) => note_ref(reads, alloc, log, name),
-        _ => Ok(()),
+        Request::Deref(name) => unless_held(alloc, log, name),
+        _ => Ok(None),
     }
 }
 
-fn note_ref(reads: &mut Reads, alloc: Global, log: &TaskLog, name: &Name) -> Result<(), AllocError>
-    ensures noted { OnOk result (reads.new.items ≡ noted log.now (request_of.Deref name.now) reads.old.items) }
-    ensures same { OnErr result (reads.new.items ≡ reads.old.items) }
+fn unless_held(alloc: Global, log: &TaskLog, name: &Name) -> Result<Option<Name>, AllocError>
+    ensures { IfOk result (λ read. (reads : List Called) → noted log.now (request_of.Deref name.now) reads ≡ with_one read reads) }
 {
     if log.holds(name) {
-        return Ok(());
+        return Ok(None);
     }
-    reads.put(name.copy(alloc)?)
+    Ok(Some(name.copy(alloc)?))
+}
+
+/// Counts the ref as read, where there is one. It takes no memory.
+fn note(reads: &mut Reads, read: Option<Name>)
+    requires { 0 < reads.old.room }
+    ensures { reads.new.items ≡ with_one read reads.old.items }
+{
+    if let Some(name) = read {
+        match reads.put(name) {
+            Ok(()) => {}
+            Err(_) => unreachable!(),
+        }
+    }
 }

@@ -15,7 +15,7 @@ ghost use Rattle.value_core.specs.Named.{Name as Naming, named, same_name, with_
 use crate::Stepped;
 use crate::copies::{copy_names, copy_parts, give};
 use crate::joining::reply;
-use crate::task::{Parts, Stage, Task};
+use crate::task::{Parts, Stage, Task, machine_goes};
 use crate::tasks::{set, task_of};
 use core_syntax::NodeId;
 use eval_step::Machine;
@@ -276,9 +276,6 @@ fn put_begun(
         }
     }
 }
-
-/// Drops a machine.
-fn machine_goes(_machine: Machine) {}
 
 /// Drops what a task has done and knows.
 fn parts_go(_parts: Parts) {}

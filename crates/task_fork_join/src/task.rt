@@ -1,9 +1,14 @@
-ghost use Rattle.std.specs.Prelude.{◌≡◌};
+ghost use Rattle.std.specs.Prelude.{◌≡◌, OnErr, OnOk};
+ghost use Rattle.task_fork_join.specs.Stepping.{HasActed};
+ghost use Rattle.txn_snapshot.specs.SnapshotAnswer.{snapshot_of, IsAnswerable};
 
 use crate::TaskEnd;
 use eval_step::Machine;
+use ref_store::Store;
+use serial_model::Request;
+use std::alloc::{AllocError, Global};
 use std::collections::BTreeSet;
-use txn_snapshot::TaskLog;
+use txn_snapshot::{Answered, TaskLog};
 use value_core::Name;
 
 /// Where a task is: it goes on, or it ended.
@@ -29,12 +34,31 @@ impl Task {
         self.stage = stage;
     }
 
-    /// It has done this, and is there.
-    pub(crate) fn act(&mut self, log: TaskLog, stage: Stage)
-        ensures { self.new ≡ record self.old { log = log; stage = stage } }
+    /// Its log answers the request, and it goes on with that machine, which was given the answer. For want of memory the task
+    /// stays.
+    pub(crate) fn act(
+        &mut self,
+        alloc: Global,
+        machine: Machine,
+        request: &Request,
+        store: &Store,
+        snapshot: u64,
+    ) -> Result<(), AllocError>
+        requires { IsAnswerable request.now }
+        ensures acted { OnOk result (HasActed (snapshot_of store.now.versions snapshot) request.now machine self.old self.new) }
+        ensures same { OnErr result (self.new ≡ self.old) }
     {
-        self.log = log;
-        self.stage = stage;
+        match self.log.answer(alloc, request, store, snapshot) {
+            Ok(answered) => {
+                answer_goes(answered);
+                self.stage = Stage::Going(machine);
+                Ok(())
+            }
+            Err(error) => {
+                machine_goes(machine);
+                Err(error)
+            }
+        }
     }
 
     /// It has done this, knows these, and is there.
@@ -53,3 +77,9 @@ pub(crate) struct Parts {
     pub(crate) log: TaskLog,
     pub(crate) knows: BTreeSet<Name>,
 }
+
+/// Drops a machine.
+pub(crate) fn machine_goes(_machine: Machine) {}
+
+/// Drops an answer that was foreseen.
+fn answer_goes(_answered: Answered) {}

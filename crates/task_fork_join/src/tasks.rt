@@ -1,16 +1,19 @@
 // Changes of the task of a name.
-ghost use Rattle.std.specs.Prelude.{◌≡◌, Some};
+ghost use Rattle.std.specs.Prelude.{◌≡◌, Some, OnErr, OnOk};
 ghost use Rattle.std.specs.Option.{IsSome};
 ghost use Rattle.task_fork_join.specs.Joining.{IsEnded};
-ghost use Rattle.task_fork_join.specs.Stepping.{Acted, Gone, HasParts};
+ghost use Rattle.task_fork_join.specs.Stepping.{Gone, HasActed, HasParts};
+ghost use Rattle.txn_snapshot.specs.SnapshotAnswer.{snapshot_of, IsAnswerable};
 ghost use Rattle.value_core.specs.Named.{named, IsChanged};
 
 use crate::task::{Parts, Stage, Task};
 use crate::{Stepped, TaskEnd};
 use eval_step::Machine;
+use ref_store::Store;
+use serial_model::Request;
+use std::alloc::{AllocError, Global};
 use std::collections::BTreeMap;
 use std::mem;
-use txn_snapshot::TaskLog;
 use value_core::Name;
 use value_core::name_map::find;
 
@@ -24,13 +27,25 @@ pub(crate) fn go(tasks: &mut BTreeMap<Name, Task>, name: &Name, stage: Stage)
     }
 }
 
-/// The task of that name has done this, and is there.
-pub(crate) fn act(tasks: &mut BTreeMap<Name, Task>, name: &Name, log: TaskLog, stage: Stage)
-    ensures { IsChanged name.now tasks.old.entries tasks.new.entries (Acted log stage) }
+/// The log of the task of that name answers the request, and the task goes on with that machine, which was given the answer.
+/// For want of memory the tasks stay.
+pub(crate) fn act(
+    tasks: &mut BTreeMap<Name, Task>,
+    alloc: Global,
+    name: &Name,
+    machine: Machine,
+    request: &Request,
+    store: &Store,
+    snapshot: u64,
+) -> Result<(), AllocError>
+    requires answerable { IsAnswerable request.now }
+    requires there { IsSome (named name.now tasks.old.entries) }
+    ensures acted { OnOk result (IsChanged name.now tasks.old.entries tasks.new.entries (HasActed (snapshot_of store.now.versions snapshot) request.now machine)) }
+    ensures same { OnErr result (tasks.new.entries ≡ tasks.old.entries) }
 {
     match tasks.get_mut(name) {
-        Some(task) => task.act(log, stage),
-        None => {}
+        Some(task) => task.act(alloc, machine, request, store, snapshot),
+        None => unreachable!(),
     }
 }
 

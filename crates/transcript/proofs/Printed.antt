@@ -1,9 +1,7 @@
 -- What a world has printed is what its history prints.
-use Rattle.std.proofs.Common.{◌≡◌, ◌∙◌, ℕ, List, length, refl, sym, ap, subst}
+use Rattle.std.proofs.Common.{◌≡◌, ◌∙◌, ℕ, List, length, refl, sym, ap}
 use Rattle.std.specs.Prelude.{Some, drop}
-use Rattle.core_syntax.specs.Table.{Table}
-use Rattle.serial_model.specs.declared.entry.Entry.{Entry}
-use Rattle.serial_model.specs.Limits.{Budget}
+use Rattle.interleave_core.specs.Grown.{history_seen, setup_seen}
 use Rattle.serial_model.specs.Replay.{replay}
 use Rattle.shared_world.specs.Shared.{Shared}
 use Rattle.shared_world.specs.Stands.{Stands}
@@ -25,12 +23,6 @@ behind s st written rest is = record {
   rest_is = is ∙ ap (drop written) (sym st.seen.bytes ∙ st.is_world.stands.bytes);
 }
 
--- what the lock sees of a world, and a world that stays
-abbrev pub setup_seen : Shared → Table × Budget
-setup_seen s = (s.setup.program, s.setup.limits)
-
-abbrev pub history_seen : Shared → List Entry
-history_seen s = s.history
-
+-- a world that stays, as the lock sees it
 pub stays : (s : Shared) → IsLater setup_seen history_seen s s
 stays s = record { same_setup = refl; grown = prefix_self s.history }

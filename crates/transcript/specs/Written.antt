@@ -52,6 +52,11 @@ pub record IsTakenWhole (bytes : List ℕ) (total : ℕ) (old new : Option (List
   pub taken : new ≡ append_known old bytes
   pub counted : written ≡ total
 
+-- for want of memory nothing was taken
+abbrev pub IsUntaken : Result ⊤ LiveNo → Option (List ℕ) → Option (List ℕ) → ℕ → ℕ → Type 0
+IsUntaken (Err no.Memory) old new was now = (new ≡ old) × (now ≡ was)
+IsUntaken _ old new was now = ⊤
+
 -- a failed write raises the count of faults, and every other answer leaves it as it was
 abbrev pub CountsLive : Result ⊤ LiveNo → ℕ → ℕ → Type 0
 CountsLive (Ok x) before now = now ≡ before

@@ -25,6 +25,10 @@ snapshot_of versions number ref = value_at number (versions_of versions ref)
 abbrev pub Reply : Type 0
 Reply = Answered × SnapshotTask
 
+-- the answer alone
+abbrev pub answer_of : Reply → Answered
+answer_of reply = reply.0
+
 -- a deref of a ref of which the task has this value of its own, and the snapshot that one; where the snapshot's is given the
 -- ref counts as read
 abbrev pub reads_ref : SnapshotTask → Name → Option Datum → Option Datum → Reply

@@ -1,8 +1,8 @@
 ghost use Rattle.std.specs.Prelude.{◌≡◌, false, is_some, Some, IfOk, OnErr, OnOk};
-ghost use Rattle.std.specs.Option.{option_copied, option_or};
+ghost use Rattle.std.specs.Option.{option_copied, option_map, option_or};
 ghost use Rattle.serial_model.specs.Ahead.{answer_ahead};
 ghost use Rattle.serial_model.specs.Task.{done_by};
-ghost use Rattle.txn_snapshot.specs.SnapshotAnswer.{reads_ref, replies, sets_ref, snapshot_of, IsAnswerable, NamesRef};
+ghost use Rattle.txn_snapshot.specs.SnapshotAnswer.{answer_of, reads_ref, replies, sets_ref, snapshot_of, IsAnswerable, NamesRef};
 ghost use Rattle.txn_snapshot.specs.SnapshotTask.{having_forked, having_merged, new_task, private, Stays};
 ghost use Rattle.value_core.specs.Named.{is_among, made_by, over};
 
@@ -134,6 +134,63 @@ impl TaskLog {
         let name = name.copy(alloc)?;
         let content = content.copy(alloc)?;
         Ok(Answered::Now(set_ref(alloc, &mut self.log, name, content)?))
+    }
+
+    /// What `answer` answers to that. The log stays.
+    pub fn foresee(
+        &self,
+        alloc: Global,
+        request: &Request,
+        store: &Store,
+        snapshot: u64,
+    ) -> Result<Answered, AllocError>
+        requires { IsAnswerable request.now }
+        ensures { IfOk result (λ found. option_map answer_of (replies (snapshot_of store.now.versions snapshot) self.now request.now) ≡ Some found) }
+    {
+        match request {
+            Request::Deref(name) => self.foresee_read(alloc, name, store.read_at(name, snapshot)),
+            Request::RefSet(name, content) => {
+                self.foresee_set(alloc, name, content, store.read_at(name, snapshot))
+            }
+            _ => {
+                let next = self.log.next_made(alloc)?;
+                Ok(Answered::Now(ahead(alloc, next, &self.actor, request)?))
+            }
+        }
+    }
+
+    /// What a deref of the ref is answered, of which the store has this value.
+    fn foresee_read(
+        &self,
+        alloc: Global,
+        name: &Name,
+        stored: Option<&Value>,
+    ) -> Result<Answered, AllocError>
+        ensures { IfOk result (λ found. found ≡ answer_of (reads_ref self.now name.now (private self.now name.now) (option_copied stored.entry))) }
+    {
+        match self.private(name) {
+            Some(value) => Ok(Answered::Now(Answer::Value(value.copy(alloc)?))),
+            None => match stored {
+                Some(value) => Ok(Answered::Now(Answer::Value(value.copy(alloc)?))),
+                None => Ok(Answered::NotInSnapshot(name.copy(alloc)?)),
+            },
+        }
+    }
+
+    /// What a ref-set of the ref is answered, of which the store has this value.
+    fn foresee_set(
+        &self,
+        alloc: Global,
+        name: &Name,
+        content: &Value,
+        stored: Option<&Value>,
+    ) -> Result<Answered, AllocError>
+        ensures { IfOk result (λ found. found ≡ answer_of (sets_ref self.now name.now content.now (option_or (private self.now name.now) (option_copied stored.entry)))) }
+    {
+        if !self.holds(name) && stored.is_none() {
+            return Ok(Answered::NotInSnapshot(name.copy(alloc)?));
+        }
+        Ok(Answered::Now(Answer::Value(content.copy(alloc)?)))
     }
 
     /// The value of the ref in the own writes, or else in the view.
@@ -269,6 +326,34 @@ fn act(
         }
         Request::Become(behaviour, state) => match actor {
             Some(_) => turn_into(alloc, log, *behaviour, state.copy()?),
+            None => Ok(Answer::Fault(Code::NoTurn)),
+        },
+        Request::SelfActor => match actor {
+            Some(actor) => Ok(Answer::Value(Value::Actor(actor.copy(alloc)?))),
+            None => Ok(Answer::Fault(Code::NoTurn)),
+        },
+        _ => unreachable!(),
+    }
+}
+
+/// What the request is answered in a turn of that actor or in none, where that rests on no ref; the name is that of the next
+/// thing that the task makes.
+fn ahead(
+    alloc: Global,
+    next: Name,
+    actor: &Option<Name>,
+    request: &Request,
+) -> Result<Answer, AllocError>
+    requires answerable { IsAnswerable request.now }
+    requires no_ref { ¬ NamesRef request.now }
+    ensures { IfOk result (λ given. answer_ahead actor.now next request.now ≡ Some given) }
+{
+    match request {
+        Request::Print(_) | Request::Send(_, _) => Ok(Answer::Value(Value::Nil)),
+        Request::NewRef(_) => Ok(Answer::Value(Value::Ref(next))),
+        Request::Spawn(_, _) => Ok(Answer::Value(Value::Actor(next))),
+        Request::Become(_, _) => match actor {
+            Some(_) => Ok(Answer::Value(Value::Nil)),
             None => Ok(Answer::Fault(Code::NoTurn)),
         },
         Request::SelfActor => match actor {

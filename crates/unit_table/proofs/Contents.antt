@@ -4,11 +4,12 @@ use Rattle.std.specs.Option.{IfSome, option_and_then, option_map}
 use Rattle.piece_table.specs.declared.piece.Piece.{Piece as Kept}
 use Rattle.unit_table.specs.Board.{Board, IsPutAt, SameClaims, actor_at, lent_at, lent_in, mark_at, marks_ready, piece_at, unit_at}
 use Rattle.unit_table.specs.Keeping.{IsKept, IsPlace, SameSlots, need_at, waits_for}
-use Rattle.unit_table.specs.Piece.{actor_in, awaited, mark_in, moved, says_ready, unit_in, with_state}
+use Rattle.unit_table.specs.Piece.{actor_in, awaited, becoming, mark_in, moved, says_ready, unit_in, with_state}
 use Rattle.unit_table.specs.declared.piece.Actor.{Actor}
 use Rattle.unit_table.specs.declared.piece.Piece.{Piece}
 use Rattle.unit_table.specs.declared.piece.Piece.TheVariants as piece
 use Rattle.unit_table.specs.declared.record.Record.{Record}
+use Rattle.unit_table.specs.declared.unit.Becoming.{Becoming}
 use Rattle.unit_table.specs.declared.unit.Unit.{Unit}
 use Rattle.eval_step.specs.Evaluation.{Evaluation}
 use Rattle.serial_model.specs.declared.actor_state.ActorState.{ActorState}
@@ -170,6 +171,27 @@ module _ (b : Board) (records : Named Record) (waits : List (Option ℕ)) (name 
   pub moved_put : IfSome (unit_at b name) (λ unit. IsPutAt name (Some (piece.Unit (record unit { machine = machine; made = made }))) b (with_records b records))
   moved_put = subst (λ o. IfSome o (λ unit. IsPutAt name (Some (piece.Unit (record unit { machine = machine; made = made }))) b (with_records b records))) (sym (ap (option_and_then unit_in) found.stands))
       (content_put b records waits name (moved machine made) (piece.Unit found.kept) kept found.stands refl changed)
+
+module _ (b : Board) (records : Named Record) (waits : List (Option ℕ)) (name : Name) (next : Becoming)
+    (kept : IsKept b waits) (there : IsSome (unit_at b name)) (changed : IsChanged name b.records records (λ r after. after ≡ record r { piece = option_map (becoming next) r.piece })) where
+  turning : UnitStands b name
+  turning = unit_found b name there
+
+  pub turned_keeps : IsKept (with_records b records) waits
+  turned_keeps = content_keeps b records waits name (becoming next) (piece.Unit turning.kept) kept turning.stands refl changed
+
+  pub turned_claims : SameClaims b (with_records b records)
+  turned_claims = content_claims b records waits name (becoming next) (piece.Unit turning.kept) kept turning.stands refl changed
+
+  pub turned_places : (q : Name) → IsSome (named q b.records) → IsSome (named q records)
+  turned_places = content_places b records waits name (becoming next) (piece.Unit turning.kept) kept turning.stands refl changed
+
+  pub turned_slots : SameSlots b (with_records b records)
+  turned_slots = content_slots b records waits name (becoming next) (piece.Unit turning.kept) kept turning.stands refl changed
+
+  pub turned_put : IfSome (unit_at b name) (λ unit. IsPutAt name (Some (piece.Unit (record unit { becomes = Some next }))) b (with_records b records))
+  turned_put = subst (λ o. IfSome o (λ unit. IsPutAt name (Some (piece.Unit (record unit { becomes = Some next }))) b (with_records b records))) (sym (ap (option_and_then unit_in) turning.stands))
+      (content_put b records waits name (becoming next) (piece.Unit turning.kept) kept turning.stands refl changed)
 
 module _ (b : Board) (records : Named Record) (waits : List (Option ℕ)) (name : Name) (state : ActorState)
     (kept : IsKept b waits) (there : IsSome (actor_at b name)) (changed : IsChanged name b.records records (λ r after. after ≡ record r { piece = option_map (with_state state) r.piece })) where

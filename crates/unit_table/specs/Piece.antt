@@ -7,6 +7,7 @@ use Rattle.unit_table.specs.declared.mark.WaitOn.TheVariants as wait
 use Rattle.unit_table.specs.declared.mark.Work.TheVariants as work
 use Rattle.unit_table.specs.declared.piece.Piece.{Piece}
 use Rattle.unit_table.specs.declared.piece.Piece.TheVariants as piece
+use Rattle.unit_table.specs.declared.unit.Becoming.{Becoming}
 use Rattle.unit_table.specs.declared.unit.Unit.{Unit}
 use Rattle.eval_step.specs.Evaluation.{Evaluation}
 use Rattle.serial_model.specs.declared.actor_state.ActorState.{ActorState}
@@ -28,6 +29,11 @@ with_mark (piece.Actor actor) mark = piece.Actor (record actor { mark = mark })
 abbrev pub moved : Evaluation → ℕ → Piece → Piece
 moved machine made (piece.Unit unit) = piece.Unit (record unit { machine = machine; made = made })
 moved machine made p = p
+
+-- a unit whose actor becomes that at its end; anything else as it was
+abbrev pub becoming : Becoming → Piece → Piece
+becoming next (piece.Unit unit) = piece.Unit (record unit { becomes = Some next })
+becoming next p = p
 
 -- an actor with that state; anything else as it was
 abbrev pub with_state : ActorState → Piece → Piece

@@ -12,5 +12,5 @@ mod waking;
 
 pub use mark::{Mark, WaitOn, Work};
 pub use piece::{Actor, Piece};
-pub use unit::{Unit, UnitKind};
+pub use unit::{Becoming, Unit, UnitKind};
 pub use units::Units;

@@ -1,8 +1,8 @@
 ghost use Rattle.std.specs.Prelude.{◌≡◌};
-ghost use Rattle.unit_table.specs.Piece.{mark_in, moved, with_mark, with_state};
+ghost use Rattle.unit_table.specs.Piece.{becoming, mark_in, moved, with_mark, with_state};
 
 use crate::mark::Mark;
-use crate::unit::Unit;
+use crate::unit::{Becoming, Unit};
 use eval_step::Machine;
 use serial_model::ActorState;
 
@@ -51,6 +51,16 @@ impl Piece {
         match self {
             Piece::Unit(unit) => unit.move_to(machine, made),
             Piece::Task(_) | Piece::Actor(_) => machine_goes(machine),
+        }
+    }
+
+    /// Puts what the actor of a unit becomes at its end.
+    pub(crate) fn turn_into(&mut self, next: Becoming)
+        ensures { self.new ≡ becoming next self.old }
+    {
+        match self {
+            Piece::Unit(unit) => unit.turn_into(next),
+            Piece::Task(_) | Piece::Actor(_) => {}
         }
     }
 

@@ -11,7 +11,10 @@ ghost use Rattle.wait_lists.specs.WaitLists.{need_of};
 
 use crate::mark::{Mark, WaitOn};
 use crate::piece::Piece;
-use crate::record::{Record, fill, move_unit, put_mark, put_place, set_actor, slot_in, ticket_in};
+use crate::record::{
+    Record, fill, move_unit, put_mark, put_place, set_actor, slot_in, ticket_in, turn_into,
+};
+use crate::unit::Becoming;
 use crate::waking::wake_all;
 use eval_step::Machine;
 use piece_table::PieceTable;
@@ -184,6 +187,19 @@ impl Places {
         ensures slots { SameSlots (board_of self.old) (board_of self.new) }
     {
         move_unit(&mut self.records, name, machine, made);
+    }
+
+    /// Puts what the unit's actor becomes at its end.
+    pub(crate) fn turn_into(&mut self, name: &Name, next: Becoming)
+        requires kept { IsKept (board_of self.old) self.old.waits }
+        requires there { IsSome (unit_at (board_of self.old) name.now) }
+        ensures kept { IsKept (board_of self.new) self.new.waits }
+        ensures turned { IfSome (unit_at (board_of self.old) name.now) (λ unit. IsPutAt name.now (Some (piece.Unit (record unit { becomes = Some next }))) (board_of self.old) (board_of self.new)) }
+        ensures claims { SameClaims (board_of self.old) (board_of self.new) }
+        ensures places { (other : Called) → HasPlace (board_of self.old) other → HasPlace (board_of self.new) other }
+        ensures slots { SameSlots (board_of self.old) (board_of self.new) }
+    {
+        turn_into(&mut self.records, name, next);
     }
 
     /// Puts the actor's state.

@@ -3,11 +3,12 @@ ghost use Rattle.std.specs.Option.{option_copied, option_map};
 ghost use Rattle.std.specs.Range.Bound.{bound_map};
 ghost use Rattle.unit_table.specs.Board.{piece_in, ComesAfter, IsNextIn};
 ghost use Rattle.unit_table.specs.Keeping.{after_bound, slot_at, ticket_at, IsMarkedAs};
-ghost use Rattle.unit_table.specs.Piece.{moved, with_mark, with_state};
+ghost use Rattle.unit_table.specs.Piece.{becoming, moved, with_mark, with_state};
 ghost use Rattle.value_core.specs.Named.{with_named, IsChanged, Name as Called};
 
 use crate::mark::Mark;
 use crate::piece::{Piece, machine_goes};
+use crate::unit::Becoming;
 use eval_step::Machine;
 use serial_model::ActorState;
 use std::alloc::AllocError;
@@ -120,6 +121,16 @@ pub(crate) fn move_unit(
     }
 }
 
+/// Puts what the actor of the unit in the place becomes at its end, where there is one. It takes no memory.
+pub(crate) fn turn_into(records: &mut BTreeMap<Name, Record>, name: &Name, next: Becoming)
+    ensures { IsChanged name.now records.old.entries records.new.entries (λ r after. after ≡ record r { piece = option_map (becoming next) r.piece }) }
+{
+    match records.get_mut(name) {
+        Some(place) => place.turn_into(next),
+        None => {}
+    }
+}
+
 /// Puts the state of the actor in the place, where there is one. It takes no memory.
 pub(crate) fn set_actor(records: &mut BTreeMap<Name, Record>, name: &Name, state: ActorState)
     ensures { IsChanged name.now records.old.entries records.new.entries (λ r after. after ≡ record r { piece = option_map (with_state state) r.piece }) }
@@ -143,6 +154,15 @@ impl Record {
         match &mut self.piece {
             Some(piece) => piece.move_unit(machine, made),
             None => machine_goes(machine),
+        }
+    }
+
+    fn turn_into(&mut self, next: Becoming)
+        ensures { self.new ≡ record self.old { piece = option_map (becoming next) self.old.piece } }
+    {
+        match &mut self.piece {
+            Some(piece) => piece.turn_into(next),
+            None => {}
         }
     }
 

@@ -12,7 +12,7 @@ use crate::piece::{Actor, Piece, machine_goes};
 use crate::places::Places;
 use crate::record::next_after;
 use crate::unfinished::{first, note, place};
-use crate::unit::{Unit, UnitKind};
+use crate::unit::{Becoming, Unit, UnitKind};
 use eval_step::Machine;
 use serial_model::ActorState;
 use slot_set::SlotSet;
@@ -76,7 +76,7 @@ impl Units {
         machine: Machine,
     ) -> Result<(), AllocError>
         requires { piece_at self.old name ≡ None }
-        ensures added { OnOk result (IsPutAt name (Some (piece.Unit (record { name = name; kind = kind; machine = machine; made = 0; mark = mark.Ready work.Eval }))) self.old self.new) }
+        ensures added { OnOk result (IsPutAt name (Some (piece.Unit (record { name = name; kind = kind; machine = machine; made = 0; becomes = None; mark = mark.Ready work.Eval }))) self.old self.new) }
         ensures same { OnErr result (SamePieces self.old self.new) }
         ensures claims { SameClaims self.old self.new }
         ensures succeeds { HasPlace self.old name → IsOk result }
@@ -181,6 +181,16 @@ impl Units {
         ensures places { (other : Called) → HasPlace self.old other → HasPlace self.new other }
     {
         self.places.move_unit(name, machine, made);
+    }
+
+    /// At the unit's end its actor becomes that. It takes no memory.
+    pub fn turn_into(&mut self, name: &Name, next: Becoming)
+        requires { IsSome (unit_at self.old name.now) }
+        ensures turned { IfSome (unit_at self.old name.now) (λ unit. IsPutAt name.now (Some (piece.Unit (record unit { becomes = Some next }))) self.old self.new) }
+        ensures claims { SameClaims self.old self.new }
+        ensures places { (other : Called) → HasPlace self.old other → HasPlace self.new other }
+    {
+        self.places.turn_into(name, next);
     }
 
     /// The actor's state. It takes no memory.

@@ -6,9 +6,8 @@ use Rattle.interleave_core.specs.Back.{IsBack}
 use Rattle.interleave_core.specs.Claims.{IsAbandoned, IsClaimOn}
 use Rattle.interleave_core.specs.declared.error.ClaimNo.{ClaimNo}
 use Rattle.interleave_core.specs.declared.error.StepNo.{StepNo}
-use Rattle.interleave_core.specs.Grown.{IsDone}
+use Rattle.interleave_core.specs.Grown.{history_seen, setup_seen, IsDone}
 use Rattle.interleave_core.specs.Over.{IsRunOver}
-use Rattle.serial_model.specs.declared.entry.Entry.{Entry}
 use Rattle.serial_model.specs.Limits.{Budget}
 use Rattle.serial_model.specs.State.{Setup}
 use Rattle.shared_world.proofs.Later.{gave-later}
@@ -23,13 +22,7 @@ use Rattle.world_claim.specs.Lent.{Lent}
 use Rattle.world_lock.specs.Later.{IsLater}
 use Rattle.world_steps.specs.Kept.{IsSameBut}
 
--- what the lock sees of a world
-abbrev pub setup_seen : Shared → Table × Budget
-setup_seen s = (s.setup.program, s.setup.limits)
-
-abbrev pub history_seen : Shared → List Entry
-history_seen s = s.history
-
+-- a later world, as the lock sees it
 pub later : (old new : Shared) → IsLaterWorld old new → IsLater setup_seen history_seen old new
 later old new is = record { same_setup = ap (λ (s : Setup). (s.program, s.limits)) is.setup; grown = (is.more, sym is.history) }
 

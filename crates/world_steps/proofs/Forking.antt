@@ -12,6 +12,7 @@ use Rattle.serial_model.specs.declared.end.End.{End}
 use Rattle.serial_model.specs.declared.halt.Halt.TheVariants as halt
 use Rattle.serial_model.specs.declared.request.Request.TheVariants as request
 use Rattle.shared_world.proofs.Live.{unit-piece}
+use Rattle.shared_world.proofs.ActorPieces.{same-pieces-actors}
 use Rattle.shared_world.proofs.Standing.{same-states}
 use Rattle.shared_world.proofs.States.{machines-same, same-pieces}
 use Rattle.shared_world.specs.declared.given.Given.{Given}
@@ -37,7 +38,7 @@ still-there old new child machine name x there none put =
 
 -- what is the same but for room stands
 pub same-stands : (old new : Shared) → Stands old → IsSameBut old new → Stands new
-same-stands old new st is = subst Stands (sym is.rest) (same-states old st new.board (same-pieces old.board new.board is.pieces) (machines-same (IsMachine old.setup) old.board new.board is.pieces st.machines))
+same-stands old new st is = subst Stands (sym is.rest) (same-states old st new.board (same-pieces old.board new.board is.pieces) (same-pieces-actors old.board new.board is.pieces) (machines-same (IsMachine old.setup) old.board new.board is.pieces st.machines))
 
 pub same-after : (old mid new : Shared) → IsSameBut old mid → IsSameBut mid new → IsSameBut old new
 same-after old mid new one two = record {

@@ -1,3 +1,7 @@
+pub mod Acting
+pub mod Due
 pub mod Forking
+pub mod Rousing
 pub mod Settling
 pub mod Trying
+pub mod Turned

@@ -1,7 +1,7 @@
 -- Steps of units that are settled.
 use Rattle.std.proofs.Common.{◌≡◌, ◌∙◌, ℕ, Bool, true, false, cond, [], ◌∷◌, ◌++◌, refl, sym, ap, subst, le_refl, le_trans}
 use Rattle.std.specs.Prelude.{IfSome, Option, None, Some, if◌then◌else◌}
-use Rattle.std.specs.Option.{option_and_then}
+use Rattle.std.specs.Option.{option_and_then, option_map}
 use Rattle.eval_step.specs.Evaluation.{Evaluation, IsOf, IsSame}
 use Rattle.world_steps.specs.Kept.{IsUnitOf}
 use Rattle.world_steps.specs.Moved.{IsMoved}
@@ -11,10 +11,10 @@ use Rattle.serial_model.specs.State.{Setup}
 use Rattle.shared_world.specs.declared.given.Given.{Given}
 use Rattle.shared_world.specs.declared.given.Given.TheVariants as given
 use Rattle.shared_world.specs.rows.Pieces.{ClaimsEnd, IsMarkedUnit, IsSet, Settles, but_gone, mark_after}
-use Rattle.shared_world.specs.Shared.{Shared, actor_of, claimed, finished_by, is_going, unit_state}
+use Rattle.shared_world.specs.Shared.{Shared, actor_of, becoming_of, claimed, finished_by, is_going, unit_state}
 use Rattle.shared_world.specs.Stands.{IsMachine, Stands}
 use Rattle.task_fork_join.specs.Stepping.{IsGiven}
-use Rattle.unit_table.specs.Board.{Board, IsMarked, IsPutAt, IsUnlent, SameClaims, but_for, lent_to, unit_at}
+use Rattle.unit_table.specs.Board.{Board, HasPlace, IsMarked, IsPutAt, IsUnlent, SameClaims, but_for, lent_to, unit_at}
 use Rattle.unit_table.specs.declared.mark.Mark.{Mark}
 use Rattle.unit_table.specs.declared.mark.Mark.TheVariants as mark
 use Rattle.unit_table.specs.declared.mark.Work.TheVariants as work
@@ -40,8 +40,8 @@ same-claims b = record { lent = λ name. refl; to = λ claim. refl; later = λ s
 -- a unit that moved, and was marked then
 pub moved-is : (name : Name) (old mid new : Board) (machine : Evaluation) (made : ℕ) (m : Mark) → says_dropped m ≡ false
     → IfSome (unit_at old name) (λ (x : Unit). IsPutAt name (Some (piece.Unit (record x { machine = machine; made = made }))) old mid) → SameClaims old mid → IsMarked name m mid new → IsUnlent name mid new
-    → IfSome (unit_at old name) (λ (x : Unit). IsMoved name x machine made m old new)
-moved-is name old mid new machine made m stays put same is unlent = on (unit_at old name) put
+    → ((other : Name) → HasPlace old other → HasPlace new other) → IfSome (unit_at old name) (λ (x : Unit). IsMoved name x machine made m old new)
+moved-is name old mid new machine made m stays put same is unlent places = on (unit_at old name) put
   where
     on : (found : Option Unit) → IfSome found (λ (x : Unit). IsPutAt name (Some (piece.Unit (record x { machine = machine; made = made }))) old mid) → IfSome found (λ (x : Unit). IsMoved name x machine made m old new)
     on None put = tt
@@ -51,6 +51,7 @@ moved-is name old mid new machine made m stays put same is unlent = on (unit_at 
         others = λ other ne. is.others other ne ∙ ap (beside name m) (put.others other ne);
       };
       unlent = unlent-after name old mid new same unlent;
+      places = places;
     }
 
 -- the claims on the name end
@@ -79,7 +80,7 @@ settles base new name x moved machine v made found is same of unfinished given_s
   found_is = found_is;
   unit = record x { machine = machine; made = made; mark = mark.Ready work.Eval };
   stands = record {
-    state = λ i. record { actor = actor_of x.kind; body = body i; values = values i; answers = answers i; made = made; becomes = None; finished = sym unfinished i };
+    state = λ i. record { actor = actor_of x.kind; body = body i; values = values i; answers = answers i; made = made; becomes = option_map becoming_of x.becomes; finished = sym unfinished i };
     machine = record { inside = given_so.same.inside ∙ same.task.inside ∙ is.inside; fuel = given_so.same.fuel ∙ same.task.fuel ∙ is.fuel; of = given_so.of base.setup.program of };
     mark = sym (ap mark_after unfinished);
   };
@@ -120,14 +121,14 @@ module _ (old base before new : Shared) (name : Name) (moved machine : Evaluatio
   claims-so = claims-end name old new (ap (λ (s : Shared). s.end) so ∙ same_end) (unlent-after name old.board base.board new.board kept moves.unlent)
 
 -- A unit that moved to another mark, after what was kept.
-module _ (old before new : Shared) (name : Name) (moved : Evaluation) (made : ℕ) (m : Mark) (st : Stands old) (is : IsUnitOf old name moved) (at_base : before ≡ old)
+module _ (old before new : Shared) (name : Name) (moved : Evaluation) (made : ℕ) (m : Mark) (is : IsUnitOf old name moved) (kept : IsMachine old.setup is.unit.machine) (at_base : before ≡ old)
     (made_so : made ≡ is.unit.made) (set : IfSome (unit_at before.board name) (λ (x : Unit). IsMoved name x moved made m before.board new.board)) where
   shifts : IsMoved name is.unit moved made m old.board new.board
   shifts = at-unit old.board name (λ (x : Unit). IsMoved name x moved made m old.board new.board) is.unit is.there
       (subst (λ (s : Shared). IfSome (unit_at s.board name) (λ (x : Unit). IsMoved name x moved made m s.board new.board)) at_base set)
 
   machine-so : IsMachine old.setup moved
-  machine-so = let kept = st.machines name is.unit is.there in record { inside = is.same.task.inside ∙ kept.inside; fuel = is.same.task.fuel ∙ kept.fuel; of = is.of }
+  machine-so = record { inside = is.same.task.inside ∙ kept.inside; fuel = is.same.task.fuel ∙ kept.fuel; of = is.of }
 
   -- it is finished
   pub finished-so : (v : Value) (found : Given) → m ≡ mark.Finished v → found ≡ given.Settled (Run name) → new ≡ record old { history = old.history ++ Run name ∷ []; board = new.board }
@@ -136,7 +137,7 @@ module _ (old before new : Shared) (name : Name) (moved : Evaluation) (made : �
     found_is = found_is;
     unit = record is.unit { machine = moved; made = made; mark = m };
     stands = record {
-      state = λ i. record { actor = actor_of is.unit.kind; body = is.same.task.body i; values = is.same.task.values i; answers = is.same.answers i; made = made_so i; becomes = None; finished = finished_by (is_m i) };
+      state = λ i. record { actor = actor_of is.unit.kind; body = is.same.task.body i; values = is.same.task.values i; answers = is.same.answers i; made = made_so i; becomes = option_map becoming_of is.unit.becomes; finished = finished_by (is_m i) };
       machine = machine-so;
       mark = is_m;
     };
@@ -149,7 +150,7 @@ module _ (old before new : Shared) (name : Name) (moved : Evaluation) (made : �
   marked-so none = record {
     unit = record is.unit { machine = moved; made = made; mark = m };
     stands = record {
-      state = λ i. record { actor = actor_of is.unit.kind; body = is.same.task.body i; values = is.same.task.values i; answers = is.same.answers i; made = made_so i; becomes = None; finished = (none ∙ sym is.unfinished) i };
+      state = λ i. record { actor = actor_of is.unit.kind; body = is.same.task.body i; values = is.same.task.values i; answers = is.same.answers i; made = made_so i; becomes = option_map becoming_of is.unit.becomes; finished = (none ∙ sym is.unfinished) i };
       machine = machine-so;
       mark = refl;
     };

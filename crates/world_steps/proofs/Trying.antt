@@ -1,6 +1,6 @@
 -- Attempts that begin.
 use Rattle.std.proofs.Common.{◌≡◌, ◌∙◌, List, length, le_trans, sym, ap, subst}
-use Rattle.std.specs.Option.{option_and_then}
+use Rattle.std.specs.Option.{option_and_then, option_map}
 use Rattle.std.specs.Prelude.{None, Some}
 use Rattle.core_syntax.specs.declared.node_id.NodeId.{NodeId}
 use Rattle.eval_step.specs.Evaluation.{Evaluation}
@@ -19,7 +19,7 @@ use Rattle.shared_world.specs.declared.given.Given.TheVariants as given
 use Rattle.shared_world.specs.rows.Attempts.{Begins, IsFreshAttempt}
 use Rattle.shared_world.specs.rows.Pieces.{IsSet}
 use Rattle.shared_world.specs.rows.Units.{Tries, UnitGives}
-use Rattle.shared_world.specs.Shared.{Shared, actor_of}
+use Rattle.shared_world.specs.Shared.{Shared, actor_of, becoming_of}
 use Rattle.shared_world.specs.Stands.{IsMachine, Stands}
 use Rattle.task_fork_join.specs.Attempt.{Attempt}
 use Rattle.unit_table.specs.Board.{Board, IsPutAt, piece_at, unit_at}
@@ -86,7 +86,7 @@ begin-came old new k name moved body values at t found st is tried root = record
       waits = record {
         unit = record is.unit { machine = moved; mark = mark.Waiting (wait.Finish t.wait) };
         stands = record {
-          state = λ i. record { actor = actor_of is.unit.kind; body = is.same.task.body i; values = is.same.task.values i; answers = is.same.answers i; made = is.unit.made; becomes = None; finished = sym is.unfinished i };
+          state = λ i. record { actor = actor_of is.unit.kind; body = is.same.task.body i; values = is.same.task.values i; answers = is.same.answers i; made = is.unit.made; becomes = option_map becoming_of is.unit.becomes; finished = sym is.unfinished i };
           machine = machine_of;
           mark = ap (λ n. mark.Waiting (wait.Finish n)) names.wait;
         };

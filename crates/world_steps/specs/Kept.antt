@@ -1,6 +1,7 @@
 -- What the world keeps, as it is shared.
 use Rattle.std.specs.Prelude.{◌≡◌, None, Some}
 use Rattle.std.specs.Arc.{arc_value}
+use Rattle.actor_mails.specs.Mails.{held}
 use Rattle.eval_step.specs.Evaluation.{Evaluation, IsOf, IsSame}
 use Rattle.world_steps.specs.declared.kept.Kept.{Kept}
 use Rattle.shared_world.specs.Shared.{Shared, finished_by}
@@ -15,6 +16,7 @@ shared_of k = record {
   history = k.history.items;
   versions = k.store.versions;
   board = k.units;
+  mails = held k.mails;
   attempts = k.attempts.entries;
   owners = filled k.owners;
   bytes = k.output.items;

@@ -16,10 +16,11 @@ use Rattle.unit_table.specs.declared.unit.Unit.{Unit}
 use Rattle.unit_table.specs.declared.unit.UnitKind.TheVariants as kind
 use Rattle.value_core.specs.Named.{Name, made_by}
 
--- the unit has that machine and mark, has made so many things, and is lent no more
+-- the unit has that machine and mark, has made so many things, and is lent no more; what had a place has one
 pub record IsMoved (name : Name) (x : Unit) (machine : Evaluation) (made : ℕ) (m : Mark) (old new : Board) : Type 0 where
   pub set : IsSet name (piece.Unit (record x { machine = machine; made = made; mark = m })) m old new
   pub unlent : IsUnlent name old new
+  pub places : (other : Name) → HasPlace old other → HasPlace new other
 
 -- the next thing that a unit makes which has made so many, and how many it has made then
 pub record IsMadeNext (name : Name) (made : ℕ) (m : Made) : Type 0 where
@@ -34,7 +35,7 @@ pub record IsBegun (setup : Setup) (machine : Evaluation) : Type 0 where
 
 -- a plain unit that this machine evaluates, which has made nothing and can go on
 abbrev pub IsPlainPut : Name → Evaluation → Board → Board → Type 0
-IsPlainPut name machine old new = IsPutAt name (Some (piece.Unit (record { name = name; kind = kind.Plain; machine = machine; made = 0; mark = mark.Ready work.Eval }))) old new
+IsPlainPut name machine old new = IsPutAt name (Some (piece.Unit (record { name = name; kind = kind.Plain; machine = machine; made = 0; becomes = None; mark = mark.Ready work.Eval }))) old new
 
 -- The unit that is forked next: nothing stands under its name, and there is a place for it.
 pub record IsForking (s : Shared) (name : Name) (f : Forking) : Type 0 where

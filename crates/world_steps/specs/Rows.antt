@@ -1,5 +1,5 @@
 -- What a call of the world comes to.
-use Rattle.std.specs.Prelude.{◌≡◌, ◌<◌, Err, List, Ok, Result, Some, length, ⊤}
+use Rattle.std.specs.Prelude.{◌≡◌, ◌<◌, ℕ, Err, List, Ok, Result, Some, length, ⊤}
 use Rattle.std.specs.declared.alloc.AllocError.{AllocError}
 use Rattle.world_steps.specs.Kept.{IsSameBut}
 use Rattle.core_syntax.specs.declared.node_id.NodeId.{NodeId}
@@ -8,14 +8,17 @@ use Rattle.serial_model.specs.declared.end.End.{End}
 use Rattle.serial_model.specs.declared.halt.Halt.{Halt}
 use Rattle.serial_model.specs.declared.halt.Halt.TheVariants as halts
 use Rattle.serial_model.specs.declared.request.Request.TheVariants as requests
+use Rattle.serial_model.specs.State.{Becoming}
 use Rattle.serial_model.specs.Step.{answered}
 use Rattle.shared_world.specs.declared.given.Given.{Given}
+use Rattle.shared_world.specs.rows.Actors.{FinishesTurn, Spawns}
 use Rattle.shared_world.specs.rows.Pieces.{ClaimsEnd, Ends, Settles}
 use Rattle.shared_world.specs.rows.Units.{Forks, UnitGives, Waits}
 use Rattle.shared_world.specs.Shared.{Shared, unit_state}
 use Rattle.unit_table.specs.Board.{unit_at}
 use Rattle.unit_table.specs.declared.unit.Unit.{Unit}
 use Rattle.value_core.specs.declared.value.Value.{Value}
+use Rattle.value_core.specs.declared.value.Value.TheVariants as value
 use Rattle.value_core.specs.Named.{Name, same_name}
 
 -- a body that is asked for is in the table
@@ -65,3 +68,39 @@ pub record HasForked (old : Shared) (name : Name) (body : NodeId) (values : List
 abbrev pub ForksOr : Shared → Name → NodeId → List Value → Shared → Result Given AllocError → Type 0
 ForksOr old name body values new (Ok found) = HasForked old name body values new found
 ForksOr old name body values new (Err e) = IsSameBut old new
+
+-- the unit makes an actor; or for want of memory nothing changes
+pub record HasSpawned (old : Shared) (name : Name) (behaviour : ℕ) (state : List Value) (new : Shared) (found : Given) : Type 0 where
+  pub row : (x : Unit) → unit_at old.board name ≡ Some x → Spawns old name x behaviour state found new
+  pub claims : ClaimsEnd (λ q. same_name q name) old new
+
+abbrev pub SpawnsOr : Shared → Name → ℕ → List Value → Shared → Result Given AllocError → Type 0
+SpawnsOr old name behaviour state new (Ok found) = HasSpawned old name behaviour state new found
+SpawnsOr old name behaviour state new (Err e) = IsSameBut old new
+
+-- the actor of the turn becomes that at its end; or for want of memory nothing changes
+pub record HasTurnedInto (old : Shared) (name : Name) (next : Becoming) (new : Shared) (found : Given) : Type 0 where
+  pub row : (x : Unit) → unit_at old.board name ≡ Some x → Settles old name x (answered (record (unit_state x) { becomes = Some next }) value.Nil) found new
+  pub claims : ClaimsEnd (λ q. same_name q name) old new
+
+abbrev pub TurnsIntoOr : Shared → Name → Becoming → Shared → Result Given AllocError → Type 0
+TurnsIntoOr old name next new (Ok found) = HasTurnedInto old name next new found
+TurnsIntoOr old name next new (Err e) = IsSameBut old new
+
+-- the turn is finished, and its actor is free; or for want of memory nothing changes
+pub record HasFinishedTurn (old : Shared) (name : Name) (v : Value) (a : Name) (new : Shared) (found : Given) : Type 0 where
+  pub row : (x : Unit) → unit_at old.board name ≡ Some x → FinishesTurn old name x a v found new
+  pub claims : ClaimsEnd (λ q. same_name q name) old new
+
+abbrev pub FinishesOr : Shared → Name → Value → Name → Shared → Result Given AllocError → Type 0
+FinishesOr old name v a new (Ok found) = HasFinishedTurn old name v a new found
+FinishesOr old name v a new (Err e) = IsSameBut old new
+
+-- a unit that is no turn is finished; or for want of memory nothing changes
+pub record HasFinished (old : Shared) (name : Name) (v : Value) (new : Shared) (found : Given) : Type 0 where
+  pub row : (x : Unit) → unit_at old.board name ≡ Some x → Settles old name x (record (unit_state x) { finished = Some v }) found new
+  pub claims : ClaimsEnd (λ q. same_name q name) old new
+
+abbrev pub PlainOr : Shared → Name → Value → Shared → Result Given AllocError → Type 0
+PlainOr old name v new (Ok found) = HasFinished old name v new found
+PlainOr old name v new (Err e) = IsSameBut old new

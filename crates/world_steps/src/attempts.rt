@@ -132,7 +132,7 @@ impl Kept {
     }
 
     /// The actor whose turn the unit is, where it is one.
-    fn actor_with(&self, alloc: Global, name: &Name) -> Result<Option<Name>, AllocError>
+    pub(crate) fn actor_with(&self, alloc: Global, name: &Name) -> Result<Option<Name>, AllocError>
         requires there { IsSome (unit_at self.now.units name.now) }
         ensures { IfOk result (λ actor. IfSome (unit_at self.now.units name.now) (λ x. actor ≡ actor_of x.kind)) }
     {

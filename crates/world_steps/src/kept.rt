@@ -4,7 +4,7 @@ ghost use Rattle.eval_step.specs.Evaluation.{IsAsking};
 ghost use Rattle.world_steps.specs.Kept.{shared_of};
 ghost use Rattle.world_steps.specs.Ready.{AreMarks, IsReady};
 ghost use Rattle.serial_model.specs.declared.answer.Answer.TheVariants as answers;
-ghost use Rattle.shared_world.specs.rows.Pieces.{Ends};
+ghost use Rattle.shared_world.specs.rows.Pieces.{EndsBy};
 ghost use Rattle.task_fork_join.specs.Stepping.{IsGiven};
 ghost use Rattle.world_steps.specs.Moved.{IsMoved};
 ghost use Rattle.serial_model.specs.declared.entry.Entry.TheVariants.{Run};
@@ -14,6 +14,7 @@ ghost use Rattle.unit_table.specs.Piece.{says_dropped};
 ghost use Rattle.unit_table.specs.declared.mark.Mark.TheVariants as mark;
 ghost use Rattle.unit_table.specs.declared.mark.Work.TheVariants as work;
 
+use actor_mails::Mails;
 use core_syntax::Program;
 use eval_step::Machine;
 use ref_store::Store;
@@ -34,6 +35,7 @@ pub struct Kept {
     pub history: History,
     pub store: Store,
     pub units: Units,
+    pub mails: Mails,
     pub attempts: BTreeMap<Name, Tree>,
     pub owners: Places<Name>,
     pub output: Vec<u8>,
@@ -90,6 +92,7 @@ impl Kept {
         ensures found { result ≡ given.Settled (Run name.now) }
         ensures set { IfSome (unit_at self.old.units name.now) (λ x. IsMoved name.now x ready.machine made (mark.Ready work.Eval) self.old.units self.new.units) }
         ensures others { shared_of self.new ≡ record (shared_of self.old) { history = self.old.history.items ++ Run name.now ∷ []; board = self.new.units } }
+        ensures rest { self.new ≡ record self.old { history = self.new.history; units = self.new.units } }
     {
         let Ready { marks, machine } = ready;
         let Marks { entry, told } = marks;
@@ -105,10 +108,10 @@ impl Kept {
     }
 
     /// The run ends. It takes no memory.
-    pub(crate) fn end_with(&mut self, name: &Name, marks: Marks, end: End) -> Given
+    pub(crate) fn end_with(&mut self, marks: Marks, end: End) -> Given
         requires room { 0 < self.old.history.room }
-        requires marks { AreMarks name.now marks }
-        ensures { Ends (shared_of self.old) name.now end result (shared_of self.new) }
+        requires told { marks.told ≡ marks.entry }
+        ensures { EndsBy (shared_of self.old) marks.entry end result (shared_of self.new) }
     {
         let Marks { entry, told } = marks;
         append(&mut self.history, entry);

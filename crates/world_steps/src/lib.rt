@@ -1,12 +1,15 @@
 //! What the world keeps, and what the step of a unit does to it.
 #![tactic(auto)]
 
+mod actors;
 mod attempts;
 mod kept;
 mod opening;
 mod requests;
+mod turns;
 mod units;
 
+pub use actors::{add_actor, idle, rouse};
 pub use attempts::add_task;
 pub use kept::{Kept, Marks, Ready};
 pub use units::value_of;

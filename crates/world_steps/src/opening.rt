@@ -10,6 +10,7 @@ ghost use Rattle.unit_table.specs.Board.{lent_to};
 ghost use Rattle.value_core.specs.declared.ticket.Ticket.{Ticket};
 
 use crate::kept::Kept;
+use actor_mails::Mails;
 use core_syntax::Program;
 use eval_step::Machine;
 use ref_store::Store;
@@ -34,6 +35,7 @@ impl Kept {
             history: History::new(alloc),
             store: Store::new(alloc),
             units,
+            mails: Mails::new(alloc),
             attempts: BTreeMap::new(alloc),
             owners: Places::new(alloc),
             output: Vec::new(alloc),

@@ -43,7 +43,7 @@ impl Kept {
         }
     }
 
-    /// The unit asks for that. What only programs with actors ask for is taken for want of memory.
+    /// The unit asks for that.
     fn give_request(
         &mut self,
         alloc: Global,
@@ -69,13 +69,14 @@ impl Kept {
             Request::Fork(body, values) => self.fork(alloc, name, moved, body, values, at),
             Request::Join(future) => self.join(alloc, name, moved, future, at),
             Request::Dosync(body, values) => self.begin(alloc, name, moved, body, values, at),
-            Request::Spawn(_, _)
-            | Request::Send(_, _)
-            | Request::Become(_, _)
-            | Request::SelfActor => {
-                drop_machine(moved);
-                Err(AllocError)
+            Request::Spawn(behaviour, state) => {
+                self.spawn(alloc, name, moved, behaviour, state, at)
             }
+            Request::Send(to, args) => self.send(alloc, name, moved, &to, args, at),
+            Request::Become(behaviour, state) => {
+                self.turn_into(alloc, name, moved, behaviour, state, at)
+            }
+            Request::SelfActor => self.self_actor(alloc, name, moved, at),
         }
     }
 }

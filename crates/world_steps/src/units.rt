@@ -5,7 +5,7 @@ ghost use Rattle.std.specs.Arc.{arc_value};
 ghost use Rattle.eval_step.specs.Evaluation.{IsAsking};
 ghost use Rattle.world_steps.specs.Kept.{shared_of, IsSameBut, IsUnitOf};
 ghost use Rattle.world_steps.specs.Moved.{IsBegun, IsForking, IsMadeNext, IsPlainPut};
-ghost use Rattle.world_steps.specs.Rows.{Comes, EndsOr, ForksOr, Replies, WaitsOr};
+ghost use Rattle.world_steps.specs.Rows.{Comes, EndsOr, ForksOr, PlainOr, Replies, WaitsOr};
 ghost use Rattle.serial_model.specs.declared.end.End.TheVariants as ends;
 ghost use Rattle.serial_model.specs.declared.halt.Halt.TheVariants as halts;
 ghost use Rattle.serial_model.specs.declared.request.Request.TheVariants as requests;
@@ -148,7 +148,7 @@ impl Kept {
     {
         self.make_room()?;
         let marks = marks_of(alloc, name)?;
-        Ok(self.end_with(name, marks, end))
+        Ok(self.end_with(marks, end))
     }
 
     /// A form of the unit fails.
@@ -232,7 +232,7 @@ impl Kept {
         }
     }
 
-    /// At its value a unit is finished.
+    /// At its value a unit is finished, and the actor whose turn it was is free.
     pub(crate) fn finish_unit(
         &mut self,
         alloc: Global,
@@ -243,6 +243,24 @@ impl Kept {
         requires stands { Stands (shared_of self.old) }
         requires unit { IsUnitOf (shared_of self.old) name.now moved }
         ensures { Comes (shared_of self.old) name.now (halts.Value value) (shared_of self.new) result }
+    {
+        match self.actor_with(alloc, name)? {
+            Some(actor) => self.finish_turn(alloc, name, moved, value, &actor),
+            None => self.finish_plain(alloc, name, moved, value),
+        }
+    }
+
+    /// At its value a unit that is no turn is finished.
+    fn finish_plain(
+        &mut self,
+        alloc: Global,
+        name: &Name,
+        moved: Machine,
+        value: Value,
+    ) -> Result<Given, AllocError>
+        requires stands { Stands (shared_of self.old) }
+        requires unit { IsUnitOf (shared_of self.old) name.now moved }
+        ensures { PlainOr (shared_of self.old) name.now value (shared_of self.new) result }
     {
         self.make_room()?;
         let Marks { entry, told } = marks_of(alloc, name)?;
@@ -325,6 +343,7 @@ impl Kept {
         ensures others { self.new ≡ record self.old { units = self.new.units } }
         ensures none { OnOk result (piece_at self.new.units name.now ≡ None) }
         ensures place { OnOk result (HasPlace self.new.units name.now) }
+        ensures places { (other : Called) → HasPlace self.old.units other → HasPlace self.new.units other }
     {
         match self.units.piece(name) {
             Some(_) => Err(AllocError),

@@ -1,6 +1,7 @@
 -- What becomes of pieces and claims.
 use Rattle.std.specs.Prelude.{◌≡◌, ◌||◌, ◌&&◌, ◌++◌, ◌∷◌, [], Bool, true, false, Option, None, Some, cond, is_some}
 use Rattle.serial_model.specs.declared.end.End.{End}
+use Rattle.serial_model.specs.declared.entry.Entry.{Entry}
 use Rattle.serial_model.specs.declared.entry.Entry.TheVariants.{Run}
 use Rattle.serial_model.specs.State.{Setup, UnitState}
 use Rattle.shared_world.specs.declared.given.Given.{Given}
@@ -52,11 +53,15 @@ pub record Settles (base : Shared) (u : Name) (x : Unit) (after : UnitState) (fo
   pub set : IsSet u (piece.Unit unit) (mark_after after.finished) base.board new.board
   pub others : new ≡ record base { history = base.history ++ Run u ∷ []; board = new.board }
 
--- Settled: the run ends so, and all else stays
-pub record Ends (old : Shared) (u : Name) (end : End) (found : Given) (new : Shared) : Type 0 where
-  pub found_is : found ≡ given.Settled (Run u)
+-- Settled: the run ends so by that entry, and all else stays
+pub record EndsBy (old : Shared) (entry : Entry) (end : End) (found : Given) (new : Shared) : Type 0 where
+  pub found_is : found ≡ given.Settled entry
   pub pieces : SamePieces old.board new.board
-  pub others : new ≡ record old { history = old.history ++ Run u ∷ []; end = Some end; board = new.board }
+  pub others : new ≡ record old { history = old.history ++ entry ∷ []; end = Some end; board = new.board }
+
+-- by a step of that unit
+abbrev pub Ends : Shared → Name → End → Given → Shared → Type 0
+Ends old u = EndsBy old (Run u)
 
 -- the unit stays where it is, with that mark
 pub record IsMarkedUnit (setup : Setup) (u : Name) (x : Unit) (m : Mark) (old new : Board) : Type 0 where

@@ -98,13 +98,12 @@ pub record TakesStep (old : Shared) (u : Name) (x : Unit) (task : Name) (tree : 
   pub step : IsStep (snapshot_of old.versions tree.snapshot) task moved (outer_of old.board (halt_of old.setup.program machine)) (halt_of old.setup.program machine) tree after went
   pub comes : AfterStep (record old { attempts = with_named old.attempts u after }) u x task after went (end_at after) found new
 
--- a root that had ended already, and was not decided on
-pub record WasEnded (old : Shared) (u : Name) (x : Unit) (tree : Attempt) (found : Given) (new : Shared) : Type 0 where
-  pub ended : TaskEnd
-  pub is_ended : end_at tree ≡ Some ended
-  pub comes : RootGives old u x tree ended found new
+-- a task that goes on takes a step
+abbrev pub StepsOn : Shared → Name → Unit → Name → Attempt → Option Evaluation → Given → Shared → Type 0
+StepsOn old u x task tree (Some machine) found new = TakesStep old u x task tree machine found new
+StepsOn old u x task tree None found new = ⊥
 
--- what the task comes to, by its machine, where it goes on
-abbrev pub TaskGives : Shared → Name → Unit → Name → Attempt → Option Evaluation → Given → Shared → Type 0
-TaskGives old u x task tree (Some machine) found new = TakesStep old u x task tree machine found new
-TaskGives old u x task tree None found new = WasEnded old u x tree found new
+-- What the task comes to, by its machine; where the root is at its end already and was not decided on, that is decided.
+abbrev pub TaskGives : Shared → Name → Unit → Name → Attempt → Option TaskEnd → Option Evaluation → Given → Shared → Type 0
+TaskGives old u x task tree None machine found new = StepsOn old u x task tree machine found new
+TaskGives old u x task tree (Some ended) machine found new = RootGives old u x tree ended found new

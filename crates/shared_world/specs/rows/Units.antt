@@ -1,5 +1,5 @@
 -- What a unit comes to.
-use Rattle.std.specs.Prelude.{◌≡◌, ◌==◌, ◌++◌, ◌∷◌, [], List, length, Option, None, Some, suc, Bool, true, false}
+use Rattle.std.specs.Prelude.{◌≡◌, ◌==◌, ◌++◌, ◌∷◌, [], ℕ, List, length, Option, None, Some, suc, Bool, true, false}
 use Rattle.core_syntax.specs.declared.node_id.NodeId.{NodeId}
 use Rattle.ref_store.specs.Store.{committed}
 use Rattle.serial_model.specs.declared.end.End.TheVariants as ending
@@ -7,12 +7,13 @@ use Rattle.serial_model.specs.declared.halt.Halt.{Halt}
 use Rattle.serial_model.specs.declared.halt.Halt.TheVariants as halt
 use Rattle.serial_model.specs.declared.request.Request.TheVariants as request
 use Rattle.serial_model.specs.State.{new_unit}
-use Rattle.serial_model.specs.Step.{answered, next_made, with_made}
+use Rattle.serial_model.specs.Step.{answered, becoming, next_made, with_made}
 use Rattle.shared_world.specs.declared.given.Given.{Given}
 use Rattle.shared_world.specs.declared.given.Given.TheVariants as given
+use Rattle.shared_world.specs.rows.Actors.{FinishesTurn, Sends, Spawns}
 use Rattle.shared_world.specs.rows.Attempts.{Begins}
 use Rattle.shared_world.specs.rows.Pieces.{Ends, IsMarkedUnit, IsUnitAt, Settles}
-use Rattle.shared_world.specs.Shared.{finished_at, ref_now, Shared, unit_state}
+use Rattle.shared_world.specs.Shared.{actor_of, finished_at, ref_now, Shared, unit_state}
 use Rattle.task_fork_join.specs.Attempt.{Attempt}
 use Rattle.unit_table.specs.Board.{Board, IsPutAt, piece_at}
 use Rattle.unit_table.specs.declared.mark.Mark.TheVariants as mark
@@ -61,6 +62,21 @@ abbrev pub Tries : Shared → Name → Unit → NodeId → List Value → Spot �
 Tries old u x body values at None found new = Begins old u x body values at found new
 Tries old u x body values at (Some tree) found new = ⊥
 
+-- in a turn it is said what its actor is to become; elsewhere the run ends
+abbrev pub Becomes : Shared → Name → Unit → ℕ → List Value → Spot → Option Name → Given → Shared → Type 0
+Becomes old u x behaviour state at None found new = Ends old u (ending.Fault code.NoTurn at u) found new
+Becomes old u x behaviour state at (Some actor) found new = Settles old u x (answered (becoming (unit_state x) behaviour state) value.Nil) found new
+
+-- the actor of a turn is the answer; elsewhere the run ends
+abbrev pub Selves : Shared → Name → Unit → Spot → Option Name → Given → Shared → Type 0
+Selves old u x at None found new = Ends old u (ending.Fault code.NoTurn at u) found new
+Selves old u x at (Some actor) found new = Settles old u x (answered (unit_state x) (value.Actor actor)) found new
+
+-- at its value the unit is finished, and the actor whose turn it was is free
+abbrev pub Finishes : Shared → Name → Unit → Value → Option Name → Given → Shared → Type 0
+Finishes old u x v None found new = Settles old u x (record (unit_state x) { finished = Some v }) found new
+Finishes old u x v (Some actor) found new = FinishesTurn old u x actor v found new
+
 -- What the unit comes to that halts so.
 abbrev pub UnitGives : Shared → Name → Unit → Halt → Given → Shared → Type 0
 UnitGives old u x (halt.Ask (request.Print text) at) found new = Settles (record old { bytes = old.bytes ++ text }) u x (answered (unit_state x) value.Nil) found new
@@ -72,7 +88,10 @@ UnitGives old u x (halt.Ask (request.RefSet ref v) at) found new = Ends old u (e
 UnitGives old u x (halt.Ask (request.Fork body values) at) found new = ForksIfAllowed old u x body values (old.made == old.setup.limits.units) found new
 UnitGives old u x (halt.Ask (request.Join future) at) found new = Joins old u x future (finished_at old.board future) found new
 UnitGives old u x (halt.Ask (request.Dosync body values) at) found new = Tries old u x body values at (named u old.attempts) found new
-UnitGives old u x (halt.Ask asked at) found new = ⊥
-UnitGives old u x (halt.Value v) found new = Settles old u x (record (unit_state x) { finished = Some v }) found new
+UnitGives old u x (halt.Ask (request.Spawn behaviour state) at) found new = Spawns old u x behaviour state found new
+UnitGives old u x (halt.Ask (request.Send to args) at) found new = Sends old u x to args found new
+UnitGives old u x (halt.Ask (request.Become behaviour state) at) found new = Becomes old u x behaviour state at (actor_of x.kind) found new
+UnitGives old u x (halt.Ask request.SelfActor at) found new = Selves old u x at (actor_of x.kind) found new
+UnitGives old u x (halt.Value v) found new = Finishes old u x v (actor_of x.kind) found new
 UnitGives old u x (halt.Fault failed at) found new = Ends old u (ending.Fault failed at u) found new
 UnitGives old u x halt.Spent found new = Ends old u (ending.Spent u) found new

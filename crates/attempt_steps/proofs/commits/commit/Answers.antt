@@ -1,13 +1,13 @@
 use Rattle.std.proofs.Common.{◌≡◌, ◌∙◌, ◌∷◌, ◌++◌, [], length, arith, refl, sym, ap, subst, suc}
 use Rattle.std.specs.Option.{IsSome, option_and_then}
-use Rattle.attempt_steps.proofs.Aborting.{unit-stays}
-use Rattle.attempt_steps.proofs.Committing.{committed-so}
+use Rattle.actor_mails.specs.Mails.{Mail, held}
+use Rattle.attempt_steps.proofs.Committing.{committed-so, moved-there, moves-on, still-there, tasks-gone, undone-again, vacant-after}
 use Rattle.attempt_steps.proofs.Decided.{at-attempt}
 use Rattle.world_steps.proofs.Settling.{at-unit}
 use Rattle.attempt_steps.specs.Deciding.{IsGatheredOf}
+use Rattle.attempt_steps.specs.Deeds.{AreDone}
 use Rattle.world_steps.specs.declared.kept.Kept.{Kept}
-use Rattle.world_steps.specs.Kept.{IsUnitOf, shared_of}
-use Rattle.attempt_steps.specs.Undoing.{IsUndone}
+use Rattle.world_steps.specs.Kept.{shared_of}
 use Rattle.ref_store.specs.Store.{committed}
 use Rattle.serial_model.specs.declared.entry.Entry.TheVariants.{Run}
 use Rattle.shared_world.specs.rows.Attempts.{ArePrunedFor}
@@ -21,44 +21,71 @@ use Rattle.attempt_steps.proofs.commits.commit.Goals as goal
 pub prune-requires-clause-room : goal.prune-requires-clause-room
 prune-requires-clause-room c =
     let has = c.requires.attempt.has in
-    let same = ap (λ (k : Kept). length k.attempts.entries) c.in_ok-ready.ensures.others ∙ ap (λ (k : Kept). length k.attempts.entries) c.in_ok-gathered.ensures.others in
-    let g = at-attempt (named c.args.owner.now c.args.kept.now.attempts.entries) (λ (t : Attempt). IsGatheredOf t c.args.kept.now.attempts.entries c.in_ok-gathered.gathered) has.tree has.attempt c.in_ok-gathered.ensures.gathered in
+    let u = c.args.owner.now in
+    let same = ap (λ (k : Kept). length k.attempts.entries) c.in_ok-prepared.ensures.others in
+    let g = at-attempt (named u c.args.kept.now.attempts.entries) (λ (t : Attempt). IsGatheredOf u t c.args.kept.now.attempts.entries c.in_ok-prepared.prepared.gathered) has.tree has.attempt c.in_ok-prepared.ensures.prepared.gathered in
     let fewer = c.drop_attempt.ensures.fewer in
     let room = g.room in omega (arith, fewer, same, room)
 
-pub settle-requires-clause-there : goal.settle-requires-clause-there
-settle-requires-clause-there c =
+pub settle-given-requires-clause-there : goal.settle-given-requires-clause-there
+settle-given-requires-clause-there c =
+    subst IsSome
+    (sym (ap (option_and_then unit_in) (still-there (shared_of c.args.kept.now) (shared_of c.prepare.new.kept) c.args.owner.now c.requires.attempt.has c.drop_attempt.new.attempts.entries c.drop_attempt.new.units c.in_ok-prepared.ensures.same c.drop_attempt.ensures.gone)))
+    refl
+
+pub do_deeds-requires-clause-there : goal.do_deeds-requires-clause-there
+do_deeds-requires-clause-there c =
+    let p = c.in_ok-prepared.prepared in
+    moved-there (shared_of c.args.kept.now) (shared_of c.prepare.new.kept) c.args.owner.now c.requires.attempt.has c.drop_attempt.new.attempts.entries c.drop_attempt.new.units c.in_ok-prepared.ensures.same c.drop_attempt.ensures.gone p.ready.machine
+    p.made c.settle-given.new.self.units c.settle-given.ensures.set
+
+pub do_deeds-requires-clause-actors : goal.do_deeds-requires-clause-actors
+do_deeds-requires-clause-actors c =
+    let old = shared_of c.args.kept.now in
+    let base = shared_of c.prepare.new.kept in
+    let p = c.in_ok-prepared.prepared in
     let has = c.requires.attempt.has in
     let u = c.args.owner.now in
-    let kept = c.in_ok-ready.ensures.same ∙ c.in_ok-gathered.ensures.same in
-    let undone = subst (λ (s : Shared). IsUndone u s.attempts s.board c.drop_attempt.new.attempts.entries c.drop_attempt.new.units) kept c.drop_attempt.ensures.gone in
-    subst IsSome (sym (ap (option_and_then unit_in) (unit-stays u has.unit (names_in has.tree.tasks) c.args.kept.now.units c.drop_attempt.new.units has.there (undone.tasks has.tree has.attempt)))) refl
+    let left = c.drop_attempt.new.attempts.entries in
+    let mid = c.drop_attempt.new.units in
+    let new = c.settle-given.new.self.units in
+    let same = c.in_ok-prepared.ensures.same in
+    let gone = c.drop_attempt.ensures.gone in
+    vacant-after p.gathered.deeds.actors.entries (names_in has.tree.tasks) u has.unit p.ready.machine p.made base.board mid new c.in_ok-prepared.ensures.prepared.actors (tasks-gone old base u has left mid same gone) c.drop_attempt.ensures.places
+    (still-there old base u has left mid same gone) (moves-on old base u has left mid same gone p.ready.machine p.made new c.settle-given.ensures.set)
 
 pub returns : goal.returns
 returns c =
     let old = shared_of c.args.kept.now in
-    let new = shared_of c.settle.new.self in
+    let base = shared_of c.prepare.new.kept in
+    let new = shared_of c.do_deeds.new.kept in
     let u = c.args.owner.now in
-    let g = c.in_ok-gathered.gathered in
-    let number = c.in_ok-number.number in
+    let p = c.in_ok-prepared.prepared in
+    let g = p.gathered in
+    let is = c.in_ok-prepared.ensures.prepared in
+    let same = c.in_ok-prepared.ensures.same in
     let left = c.drop_attempt.new.attempts.entries in
     let mid = c.drop_attempt.new.units in
-    let kept = c.in_ok-ready.ensures.same ∙ c.in_ok-gathered.ensures.same in
-    let ready = c.in_ok-ready.ensures.ready in
+    let settled = c.settle-given.new.self in
     let bytes : c.extend_from_slice.new.self.items ≡ old.bytes ++ g.text.items =
-    c.in_ok-extend_from_slice.ensures.items ∙ ap (λ t. (shared_of c.ready_unit.new.kept).bytes ++ t) c.as_slice.ensures.value ∙ ap (λ (s : Shared). s.bytes ++ g.text.items) kept in
-    let versions : new.versions ≡ c.prune.new.store.versions = ap (λ (s : Shared). s.versions) c.settle.ensures.others in
-    committed-so old new mid left u ready.machine c.in_ok-ready.ready.machine c.args.value c.in_ok-made.made number g c.settle.result c.requires.stands c.requires.going
-    (subst (λ (s : Shared). IsUndone u s.attempts s.board left mid) kept c.drop_attempt.ensures.gone)
-    (subst (λ (s : Shared). IsUnitOf s u ready.machine) c.in_ok-gathered.ensures.same ready.standing.unit)
-    ready.ready.given
-    (λ tree attempt. (at-attempt (named u old.attempts) (λ (t : Attempt). IsGatheredOf t old.attempts g) tree attempt c.in_ok-gathered.ensures.gathered).has)
-    (λ x there. at-unit old.board u (λ (y : Unit). c.in_ok-made.made ≡ suc y.made) x there c.in_ok-made.ensures)
-    c.in_ok-number.ensures
-    (subst (λ vs. ArePrunedFor left (committed old.versions g.writes.items number) vs) (sym versions)
-    (subst (λ vs. ArePrunedFor left vs c.prune.new.store.versions) (c.commit.ensures.versions ∙ ap (λ (s : Shared). committed s.versions g.writes.items number) kept) c.prune.ensures.pruned))
-    c.settle.ensures.found c.settle.ensures.set
-    (c.settle.ensures.others
-    ∙ ap (λ (s : Shared). record s { history = s.history ++ Run u ∷ []; versions = c.prune.new.store.versions; attempts = left; bytes = c.extend_from_slice.new.self.items; board = new.board }) kept
-    ∙ ap (λ b. record old { history = old.history ++ Run u ∷ []; versions = c.prune.new.store.versions; attempts = left; bytes = b; board = new.board }) bytes
-    ∙ ap (λ vs. record old { history = old.history ++ Run u ∷ []; versions = vs; attempts = left; bytes = old.bytes ++ g.text.items; board = new.board }) (sym versions))
+    c.in_ok-extend_from_slice.ensures.items ∙ ap (λ t. base.bytes ++ t) c.as_slice.ensures.value ∙ ap (λ (s : Shared). s.bytes ++ g.text.items) same.rest in
+    let is_new : new ≡ record (shared_of settled) { board = new.board; mails = new.mails } = ap shared_of c.do_deeds.ensures.others in
+    let so = is_new ∙ ap (λ (s : Shared). record s { board = new.board; mails = new.mails }) c.settle-given.ensures.others in
+    let versions : new.versions ≡ c.prune.new.store.versions = ap (λ (s : Shared). s.versions) so in
+    let mails : held settled.mails ≡ old.mails = ap (λ (k : Kept). held k.mails) c.settle-given.ensures.rest ∙ ap (λ (s : Shared). s.mails) same.rest in
+    committed-so old new mid settled.units left u is.ready.machine p.ready.machine c.args.value p.made p.number g c.settle-given.result c.requires.stands c.requires.going
+    (undone-again old base u left mid same c.drop_attempt.ensures.gone)
+    is.ready.standing.unit
+    is.ready.ready.given
+    (λ tree attempt. (at-attempt (named u old.attempts) (λ (t : Attempt). IsGatheredOf u t old.attempts g) tree attempt is.gathered).has)
+    (λ x there. at-unit old.board u (λ (y : Unit). p.made ≡ suc y.made) x there is.made)
+    is.number
+    (subst (λ vs. ArePrunedFor left (committed old.versions g.writes.items p.number) vs) (sym versions)
+    (subst (λ vs. ArePrunedFor left vs c.prune.new.store.versions) (c.commit.ensures.versions ∙ ap (λ (s : Shared). committed s.versions g.writes.items p.number) same.rest) c.prune.ensures.pruned))
+    c.settle-given.ensures.found c.settle-given.ensures.set
+    (λ a some. sym (same.pieces a) ∙ (is.actors a some).none)
+    (subst (λ (m : Mail). AreDone u g.deeds m new.mails settled.units new.board) mails c.do_deeds.ensures.done)
+    (so
+    ∙ ap (λ (s : Shared). record s { history = s.history ++ Run u ∷ []; versions = c.prune.new.store.versions; attempts = left; bytes = c.extend_from_slice.new.self.items; board = new.board; mails = new.mails }) same.rest
+    ∙ ap (λ b. record old { history = old.history ++ Run u ∷ []; versions = c.prune.new.store.versions; attempts = left; bytes = b; board = new.board; mails = new.mails }) bytes
+    ∙ ap (λ vs. record old { history = old.history ++ Run u ∷ []; versions = vs; attempts = left; bytes = old.bytes ++ g.text.items; board = new.board; mails = new.mails }) (sym versions))

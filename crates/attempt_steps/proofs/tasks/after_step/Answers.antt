@@ -1,6 +1,7 @@
 use Rattle.std.proofs.Common.{◌≡◌, subst}
 use Rattle.std.specs.Prelude.{IfSome, is_some}
-use Rattle.attempt_steps.proofs.Taking.{after-ended, after-forks, after-misses, after-waits, has-task}
+use Rattle.attempt_steps.proofs.Taking.{after-ended, after-forks, after-misses, after-waits, forked-so, has-child, has-task}
+use Rattle.attempt_steps.specs.Tasks.{HasForkedTask}
 use Rattle.world_steps.specs.Kept.{shared_of}
 use Rattle.task_fork_join.specs.Attempt.{end_at}
 use Rattle.value_core.specs.Named.{named}
@@ -27,5 +28,8 @@ returns-in-NotInSnapshot c =
 pub returns-in-Forked : goal.returns-in-Forked
 returns-in-Forked c =
     let s = shared_of c.args.kept.now in
-    after-forks s (shared_of c.add_forked.new.kept) c.args.owner.now c.args.task.now c.in-Forked.future c.args.went c.add_forked.result c.requires.stands (has-task s c.args.owner.now c.args.task.now c.requires.at c.requires.there)
-    (subst (λ b. IfSome (named c.args.owner.now s.attempts) (λ tree. b ≡ is_some (end_at tree))) c.if-has_ended.false c.has_ended.ensures) c.in-Forked.is c.add_forked.ensures
+    let child = has-child c.args.kept.now c.args.owner.now c.in-Forked.field-0 c.args.went c.args.child c.in-Forked.is c.requires.child c.requires.room in
+    after-forks s (shared_of c.add_forked.new.kept) c.args.owner.now c.args.task.now c.in-Forked.field-0 c.args.went c.add_forked.result
+    (subst (λ b. IfSome (named c.args.owner.now s.attempts) (λ tree. b ≡ is_some (end_at tree))) c.if-has_ended.false c.has_ended.ensures) c.in-Forked.is
+    (forked-so s (shared_of c.add_forked.new.kept) c.args.owner.now c.args.task.now c.in-Forked.field-0 child.is c.add_forked.result child.called child.room.owner_is
+    (subst (λ o. IfSome o (λ k. HasForkedTask s k.owner c.args.task.now k.name (shared_of c.add_forked.new.kept) c.add_forked.result)) child.there c.add_forked.ensures))

@@ -9,5 +9,5 @@ use Rattle.attempt_steps.proofs.tasks.settle_task.Goals as goal
 pub returns-then-has_ended : goal.returns-then-has_ended
 returns-then-has_ended c =
     let s = shared_of c.args.kept.now in
-    settled-task s (shared_of c.decide_or_wait.new.kept) c.args.owner.now c.args.task.now c.in_ok-_next._next c.decide_or_wait.result c.requires.owned c.requires.none c.in_ok-_next.ensures
+    settled-task s (shared_of c.decide_or_wait.new.kept) c.args.owner.now c.args.task.now c.in_ok-_next._next c.decide_or_wait.result c.requires.stands c.requires.owned c.in_ok-_next.ensures
     (subst (λ b. IfSome (named c.args.owner.now s.attempts) (λ tree. b ≡ is_some (end_at tree))) c.if-has_ended.true c.has_ended.ensures) c.decide_or_wait.ensures

@@ -1,9 +1,13 @@
 use Rattle.std.proofs.Common.{ap, refl, subst, sym}
 use Rattle.std.specs.Option.{IsSome}
 use Rattle.std.specs.Prelude.{IfSome}
+use Rattle.attempt_steps.proofs.Children.{of-step}
+use Rattle.attempt_steps.proofs.Decided.{at-attempt}
 use Rattle.attempt_steps.proofs.Wanting.{same-itself, taken, taken-came, taken-stands, taken-task}
 use Rattle.world_steps.specs.Kept.{shared_of}
-use Rattle.attempt_steps.specs.Tasks.{IsTaskIn}
+use Rattle.attempt_steps.specs.Tasks.{IsNextIfForked, IsTaskIn}
+use Rattle.task_fork_join.specs.Attempt.{Attempt}
+use Rattle.value_core.specs.Named.{named}
 use Rattle.shared_world.specs.Shared.{is_going}
 use Rattle.attempt_steps.proofs.tasks.step_with.Goals as goal
 
@@ -39,4 +43,13 @@ returns-in-Ok c =
     let mid = shared_of c.take_step.new.kept in
     let going = ap is_going c.requires.going in
     let t = taken old old mid c.args.owner.now c.args.task.now c.args.moved c.args.halt c.requires.task c.in-Ok.went (same-itself old) c.in-Ok.ensures.step (ap shared_of c.in-Ok.ensures.others) in
-    taken-came old mid c.requires.stands going c.args.owner.now c.args.task.now c.args.moved c.args.halt c.requires.task c.in-Ok.went t (shared_of c.after_step.new.kept) c.after_step.result c.after_step.ensures
+    taken-came old mid c.requires.stands going c.args.owner.now c.args.task.now c.args.moved c.args.halt c.requires.task c.in-Ok.went t c.requires.open (shared_of c.after_step.new.kept) c.after_step.result c.after_step.ensures
+
+pub after_step-requires-clause-child : goal.after_step-requires-clause-child
+after_step-requires-clause-child c =
+    let old = shared_of c.args.kept.now in
+    let mid = shared_of c.take_step.new.kept in
+    let is = c.requires.task in
+    let t = taken old old mid c.args.owner.now c.args.task.now c.args.moved c.args.halt is c.in-Ok.went (same-itself old) c.in-Ok.ensures.step (ap shared_of c.in-Ok.ensures.others) in
+    of-step old mid c.args.owner.now c.args.task.now c.args.moved c.args.halt is c.in-Ok.went t c.args.child
+    (at-attempt (named c.args.owner.now old.attempts) (λ (a : Attempt). IsNextIfForked c.args.halt a c.args.task.now c.args.child) is.tree is.task_in.attempt c.requires.next)

@@ -5,7 +5,7 @@ use Rattle.chocola.proofs.check_command.check_file.Goals as goal
 pub returns-in-Ok-clause-answers : goal.returns-in-Ok-clause-answers
 returns-in-Ok-clause-answers g c =
     check_loaded c.args.file.now _ _ c.tell_counts.result c.in-Ok.program c.in-Ok.ensures.loads.0
-    c.tell_counts.ensures.status c.tell_counts.ensures.prefix c.tell_counts.ensures.whole c.tell_counts.ensures.fault c.tell_counts.ensures.unfailed c.tell_counts.ensures.outcome
+    c.tell_counts.ensures.status c.tell_counts.ensures.prefix c.tell_counts.ensures.whole c.tell_counts.ensures.fault c.tell_counts.ensures.unfailed c.tell_counts.ensures.unrun
     (record { held = c.in-Ok.ensures.same; faults = c.in-Ok.ensures.writes }) refl c.in-Ok.ensures.loads.1
 
 pub returns-in-Err-clause-answers : goal.returns-in-Err-clause-answers

@@ -9,15 +9,15 @@ pub returns-clause-finished : goal.returns-clause-finished
 returns-clause-finished g c =
     Finished-of c.args.serial _ c.output.result.now (g.K.Sink.seen c.args.out.now) (g.K.Sink.seen c.write_all-written.new.sink) c.into_history.ensures c.output.ensures.replays c.output.ensures.bytes (no_end (state_of c.args.serial) c.args.serial.setup None refl)
     c.write_all-written.ensures.prefix
-    (wrote_whole c.write_all-written.result c.say_differs_after-status.result (g.K.Sink.seen c.args.out.now) (g.K.Sink.seen c.write_all-written.new.sink) _ c.write_all-written.ensures.counts c.say_differs_after-status.ensures.after.unwritten c.write_all-written.ensures.whole)
+    (wrote_whole c.write_all-written.result c.say_differs-status.result (g.K.Sink.seen c.args.out.now) (g.K.Sink.seen c.write_all-written.new.sink) _ c.write_all-written.ensures.counts c.say_differs-status.ensures.after.unwritten c.write_all-written.ensures.whole)
     (λ e. tt)
 
 pub returns-clause-writes : goal.returns-clause-writes
 returns-clause-writes g c =
-    ReplayWritten-of c.write_all-written.result _ _ _ _ _ c.write_all-written.ensures.counts c.write_all-written.ensures.later c.say_differs_after-status.ensures.after
+    ReplayWritten-of c.write_all-written.result _ _ _ _ _ c.write_all-written.ensures.counts c.write_all-written.ensures.later c.say_differs-status.ensures.after
     (record {
-      said = c.say_differs_after-status.ensures.said;
+      said = c.say_differs-status.ensures.said;
       said_at_most = search rules;
-      end_said = λ ended apart. absurd (elim c.say_differs_after-status.ensures.status [ inl e ↦ apart e | inr e ↦ not_eight c.say_differs_after-status.result (inl ended) e ]);
+      end_said = λ ended apart. absurd (elim c.say_differs-status.ensures.status [ inl e ↦ apart e | inr e ↦ not_eight c.say_differs-status.result (inl ended) e ]);
     })
-    c.say_differs_after-status.ensures.whole
+    c.say_differs-status.ensures.whole

@@ -1,5 +1,5 @@
 use Rattle.std.proofs.Common.{refl}
-use Rattle.chocola.proofs.ScheduleErrors.{schedule_error}
+use Rattle.chocola.proofs.Unscheduled.{schedule_error}
 use Rattle.chocola.proofs.ScheduleRuns.{schedule_loaded}
 use Rattle.chocola.proofs.schedule_command.schedule_file.Goals as goal
 
@@ -11,5 +11,5 @@ returns-in-Ok-clause-answers g c =
 
 pub returns-in-Err-clause-answers : goal.returns-in-Err-clause-answers
 returns-in-Err-clause-answers g c =
-    schedule_error c.args.file.now c.args.schedule.now _ _ c.without_schedule.result c.in-Err.error c.in-Err.ensures.loads c.without_schedule.ensures.outcome c.args.limits c.args.trace.now refl
-    (record { held = c.in-Err.ensures.same; faults = c.in-Err.ensures.writes }) c.without_schedule.ensures.says
+    schedule_error c.args.file.now c.args.schedule.now _ _ c.without_pair.result c.in-Err.error c.in-Err.ensures.loads c.without_pair.ensures.outcome c.args.limits c.args.trace.now refl
+    (record { held = c.in-Err.ensures.same; faults = c.in-Err.ensures.writes }) c.without_pair.ensures.says

@@ -20,5 +20,7 @@ returns c =
     ∙ ap₂ with_subcommand with_run (ap (λ (a : App). a.top) c.in_ok-schedule.ensures.told) in
     let with_replay = c.in_ok-subcommand-3.ensures.shape c.in_ok-replay.ensures.local
     ∙ ap₂ with_subcommand with_schedule (ap (λ (a : App). a.top) c.in_ok-replay.ensures.told) in
-    IfOk-weaker c.subcommand-4.result _ _ (λ parser added. added.shape c.in_ok-check.ensures.local
-    ∙ ap₂ with_subcommand with_replay (ap (λ (a : App). a.top) c.in_ok-check.ensures.told)) c.subcommand-4.ensures
+    let with_check = c.in_ok-subcommand-4.ensures.shape c.in_ok-check.ensures.local
+    ∙ ap₂ with_subcommand with_replay (ap (λ (a : App). a.top) c.in_ok-check.ensures.told) in
+    IfOk-weaker c.subcommand-5.result _ _ (λ parser added. added.shape c.in_ok-make.ensures.local
+    ∙ ap₂ with_subcommand with_check (ap (λ (a : App). a.top) c.in_ok-make.ensures.told)) c.subcommand-5.ensures

@@ -7,7 +7,7 @@ use Rattle.shared_world.specs.Shared.{is_going}
 use Rattle.world_claim.specs.Lent.{IsMachineOf}
 
 pub give_to-requires-clause-unfinished : goal.give_to-requires-clause-unfinished
-give_to-requires-clause-unfinished c = not-finished c.args.kept.now.units c.args.name.now c.requires.unfinished
+give_to-requires-clause-unfinished c = not-finished c.args.kept.now.units c.args.name.now c.requires.goes_on
 
 pub give_to-requires-clause-of : goal.give_to-requires-clause-of
 give_to-requires-clause-of c =
@@ -19,4 +19,4 @@ returns-in_err-given c = wanting-goes (shared_of c.args.kept.now) (shared_of c.g
 
 pub returns : goal.returns
 returns c =
-    gave-goes (shared_of c.args.kept.now) (shared_of c.give_to.new.kept) c.args.name.now c.in_ok-given.given c.requires.stands c.requires.going c.requires.unfinished c.in_ok-given.ensures
+    gave-goes (shared_of c.args.kept.now) (shared_of c.give_to.new.kept) c.args.name.now c.in_ok-given.given c.requires.stands c.requires.going c.requires.goes_on c.in_ok-given.ensures

@@ -1,20 +1,20 @@
 use Rattle.std.proofs.Common.{subst}
 use Rattle.interleave_core.proofs.Given.{body-there, unit-gave-so, unit-of}
-use Rattle.interleave_core.specs.Giving.{IsOwnedOr}
+use Rattle.interleave_core.specs.Giving.{IsStanderOf}
 use Rattle.world_steps.specs.Kept.{shared_of}
 use Rattle.interleave_core.proofs.giving.give_moved.Goals as goal
 
 pub give_unit-requires-clause-unit : goal.give_unit-requires-clause-unit
 give_unit-requires-clause-unit c =
     let s = shared_of c.args.kept.now in
-    unit-of s c.args.name.now c.args.moved (subst (IsOwnedOr s c.args.name.now) c.in-None.is c.in_ok-owner.ensures) c.requires.unfinished c.requires.moved
+    unit-of s c.args.name.now c.args.moved (subst (IsStanderOf s c.args.name.now) c.in-Unit.is c.in_ok-stander_of.ensures) c.requires.unfinished c.requires.moved
 
 pub give_unit-requires-clause-body : goal.give_unit-requires-clause-body
 give_unit-requires-clause-body c =
     let s = shared_of c.args.kept.now in
-    body-there s c.requires.stands c.args.name.now c.args.moved (subst (IsOwnedOr s c.args.name.now) c.in-None.is c.in_ok-owner.ensures) c.requires.moved
+    body-there s c.requires.stands c.args.name.now c.args.moved (subst (IsStanderOf s c.args.name.now) c.in-Unit.is c.in_ok-stander_of.ensures) c.requires.moved
 
-pub returns-in-None : goal.returns-in-None
-returns-in-None c =
+pub returns-in-Unit : goal.returns-in-Unit
+returns-in-Unit c =
     let s = shared_of c.args.kept.now in
-    unit-gave-so s (shared_of c.give_unit.new.self) c.requires.stands c.args.name.now c.args.moved c.give_unit.result (subst (IsOwnedOr s c.args.name.now) c.in-None.is c.in_ok-owner.ensures) c.requires.moved c.give_unit.ensures
+    unit-gave-so s (shared_of c.give_unit.new.self) c.requires.stands c.args.name.now c.args.moved c.give_unit.result (subst (IsStanderOf s c.args.name.now) c.in-Unit.is c.in_ok-stander_of.ensures) c.requires.moved c.give_unit.ensures

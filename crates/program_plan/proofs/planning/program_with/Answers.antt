@@ -1,8 +1,8 @@
 use Rattle.std.proofs.Common.{◌≡◌, None, Some, sym, ap, subst, ◌∙◌}
 use Rattle.std.specs.Prelude.{IfErr}
-use Rattle.program_plan.specs.Early.{first_early}
+use Rattle.resolved_forms.specs.Early.{first_early}
 use Rattle.program_plan.specs.Lowered as lowered
-use Rattle.program_plan.specs.Plan.{layout_of}
+use Rattle.resolved_forms.specs.Units.{layout_of}
 use Rattle.program_plan.specs.Planned.{early, early_in, layout_in}
 use Rattle.program_plan.proofs.Passing.{from_lowered}
 use Rattle.program_plan.proofs.Rising.{layout_rises}

@@ -19,6 +19,7 @@ pub returns-in-Some : goal.returns-in-Some
 returns-in-Some c =
     let there = found_named c.args.name.now c.args.refs.now (option_copied_mut c.get_mut.result) _ c.get_mut.ensures.value (ap option_copied_mut c.in-Some.is) in
     added c.args.name.now c.args.version c.args.refs.now.entries (c.get_mut.follows.lender c.push.new.self).entries c.in-Some.versions.now c.push.new.self c.requires.rises there
+    (room_there c.args.name.now c.args.refs.now.entries c.in-Some.versions.now there c.requires.ready.0)
     (written_is_put c.args.name.now c.args.refs.now (c.get_mut.follows.lender c.push.new.self) c.push.new.self c.in-Some.versions.now (c.get_mut.follows.holds c.push.new.self) there) c.push.ensures
 
 not_some : {A : Type 0} (o : Option A) → ((x : A) → o ≢ Some x) → o ≡ None

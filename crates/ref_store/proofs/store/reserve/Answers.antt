@@ -14,6 +14,7 @@ loop-write-preserved c =
     let new = c.reserve_one.new.refs.entries in
     record {
       reserved = reserved_more c.args.refs.now.entries c.loop-write.refs.entries new c.loop-write.invariant.reserved c.in_ok-reserve_one.ensures.reserved;
+      watched = λ watched. c.in_ok-reserve_one.ensures.watched (c.loop-write.invariant.watched watched);
       room = All-more (λ (w : Name × Value). HasRoom w.0 (room_in new)) writes c.loop-write.write-index c.write-item.result (omega arith)
           (reserved_room (take c.loop-write.write-index writes) c.loop-write.refs.entries new c.in_ok-reserve_one.ensures.reserved c.loop-write.invariant.room)
           (subst (λ (w : Name × Value). HasRoom w.0 (room_in new)) c.write-item.is c.in_ok-reserve_one.ensures.room);
@@ -22,3 +23,6 @@ loop-write-preserved c =
 pub returns-clause-room : goal.returns-clause-room
 returns-clause-room c =
     subst (λ (ws : Named Value). All (λ (w : Name × Value). HasRoom w.0 (room_in c.loop-write.refs.entries)) ws) (take_all c.loop-write.write-index c.args.writes.now (omega arith)) c.loop-write.invariant.room
+
+pub returns-in_err-reserve_one-clause-watched : goal.returns-in_err-reserve_one-clause-watched
+returns-in_err-reserve_one-clause-watched c = λ watched. c.reserve_one.ensures.watched (c.loop-write.invariant.watched watched)

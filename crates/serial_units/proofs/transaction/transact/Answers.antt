@@ -5,11 +5,11 @@ use Rattle.serial_units.proofs.TaskTurns.{root_is_task}
 use Rattle.serial_units.proofs.transaction.transact.Goals as goal
 
 pub returns-clause-end : goal.returns-clause-end
-returns-clause-end c = IfOk-weaker c.root.result _ _ (λ done is.
+returns-clause-end c = IfOk-weaker c.root-done.result _ _ (λ done is.
     is ∙ ap (λ r. r.outcome) (root_is_task (around_of c.args.around.now) c.in_ok-machine.machine c.args.name c.args.body c.args.values
-    c.in_ok-machine.ensures.body c.in_ok-machine.ensures.values c.in_ok-machine.ensures.answers)) c.root.ensures.end
+    c.in_ok-machine.ensures.body c.in_ok-machine.ensures.values c.in_ok-machine.ensures.answers)) c.root-done.ensures.end
 
 pub returns-clause-log : goal.returns-clause-log
-returns-clause-log c = IfOk-weaker c.root.result _ _ (λ done is.
+returns-clause-log c = IfOk-weaker c.root-done.result _ _ (λ done is.
     is ∙ ap (λ r. r.log) (root_is_task (around_of c.args.around.now) c.in_ok-machine.machine c.args.name c.args.body c.args.values
-    c.in_ok-machine.ensures.body c.in_ok-machine.ensures.values c.in_ok-machine.ensures.answers)) c.root.ensures.log
+    c.in_ok-machine.ensures.body c.in_ok-machine.ensures.values c.in_ok-machine.ensures.answers)) c.root-done.ensures.log

@@ -3,7 +3,7 @@ use Rattle.std.proofs.lemmas.Result.{IfOk-weaker}
 use Rattle.std.specs.declared.cmp.Ordering.TheVariants.{Greater}
 use Rattle.shared_map.proofs.Entries.{around, puts_right}
 use Rattle.shared_map.proofs.putting.+put.Goals as goal
-use Rattle.shared_map.specs.Trees.{node_items, pair_of, tree_items}
+use Rattle.shared_map.specs.Trees.{pair_of, tree_items}
 use Rattle.value_core.specs.Name.{after_cmp}
 
 pub beside-returns-in_ok-right-in-Greater : goal.beside-returns-in_ok-right-in-Greater

@@ -1,12 +1,12 @@
 use Rattle.std.proofs.Common.{◌≡◌, ◌∙◌, ◌<◌, ap, length, subst, sym}
 use Rattle.std.specs.Prelude.{Some}
 use Rattle.std.specs.declared.cmp.Ordering.TheVariants.{Less, Equal, Greater}
-use Rattle.shared_map.proofs.Entries.{finds_here, finds_left, finds_right, left_rises, left_shorter, right_rises, right_shorter}
+use Rattle.shared_map.proofs.Entries.{finds_here, finds_left, finds_right, left_rises, right_rises, right_shorter}
 use Rattle.shared_map.proofs.shared_map.found.Goals as goal
 use Rattle.shared_map.proofs.Unfolded.{unfolded}
 use Rattle.shared_map.specs.declared.node.Entry.{Entry}
 use Rattle.shared_map.specs.declared.node.Node.TheViews.{out-Node}
-use Rattle.shared_map.specs.Trees.{node_items, pair_of, tree_items}
+use Rattle.shared_map.specs.Trees.{node_items, tree_items}
 use Rattle.value_core.specs.Name.{after_cmp}
 use Rattle.value_core.specs.Named.{Named, Rises, named}
 

@@ -2,7 +2,8 @@ use denote.Param.Send.{sendable}
 use Rattle.std.proofs.Common.{◌∙◌, subst, sym}
 use Rattle.interleave_core.proofs.Crossing.{world_send}
 use Rattle.transcript.proofs.behind.bytes_behind.Goals as goal
-use Rattle.transcript.proofs.Printed.{history_seen, setup_seen, stays}
+use Rattle.transcript.proofs.Printed.{stays}
+use Rattle.interleave_core.specs.Grown.{history_seen, setup_seen}
 use Rattle.world_lock.specs.Later.{IsLater}
 
 pub enter-turn-requires-send-T : goal.enter-turn-requires-send-T

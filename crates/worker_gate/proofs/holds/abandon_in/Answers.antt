@@ -1,7 +1,8 @@
 use denote.Param.Send.{sendable}
 use Rattle.std.proofs.Common.{◌∙◌, subst, sym}
 use Rattle.interleave_core.proofs.Crossing.{world_send}
-use Rattle.worker_gate.proofs.Holding.{abandoned-later, history_seen, setup_seen}
+use Rattle.worker_gate.proofs.Holding.{abandoned-later}
+use Rattle.interleave_core.specs.Grown.{history_seen, setup_seen}
 use Rattle.worker_gate.proofs.holds.abandon_in.Goals as goal
 use Rattle.world_lock.specs.Later.{IsLater}
 

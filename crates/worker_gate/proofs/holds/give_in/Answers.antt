@@ -3,7 +3,8 @@ use Rattle.std.proofs.Common.{◌∙◌, subst, sym}
 use mathlib.Core.List.{IsPrefix}
 use Rattle.interleave_core.proofs.Crossing.{world_send}
 use Rattle.shared_world.specs.Shared.{Shared}
-use Rattle.worker_gate.proofs.Holding.{gives-later, history_seen, setup_seen}
+use Rattle.worker_gate.proofs.Holding.{gives-later}
+use Rattle.interleave_core.specs.Grown.{history_seen, setup_seen}
 use Rattle.worker_gate.proofs.holds.give_in.Goals as goal
 use Rattle.world_lock.proofs.Begun.{prefix_trans}
 use Rattle.world_lock.specs.Later.{IsLater}

@@ -1,4 +1,4 @@
-use Rattle.std.proofs.Common.{◌≡◌, ◌∙◌, ap, subst, sym}
+use Rattle.std.proofs.Common.{◌∙◌, ap, subst, sym}
 use Rattle.std.specs.Arc.{arc_value}
 use Rattle.interleave_core.proofs.Worlds.{given-standing, run-here}
 use Rattle.interleave_core.proofs.world.World.give.Goals as goal

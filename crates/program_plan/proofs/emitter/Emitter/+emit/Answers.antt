@@ -1,7 +1,7 @@
 use Rattle.std.proofs.Common.{map, ap, arith}
 use Rattle.core_syntax.specs.declared.node.Node.TheVariants.{Nil}
 use Rattle.core_syntax.specs.WellFormed.{IsBelow}
-use Rattle.program_plan.specs.declared.expr.Expr.{Expr}
+use Rattle.resolved_forms.specs.declared.expr.Expr.{Expr}
 use Rattle.program_plan.specs.Emitted.{Begun, emitted, let_of, loop_of, loop_function}
 use Rattle.program_plan.specs.Made.{node}
 use Rattle.std.proofs.lemmas.List.Elements.{All-push}

@@ -5,7 +5,7 @@ use Rattle.value_core.specs.Named.{Name, Named, Rises}
 use Rattle.ref_store.specs.Places.{versions_in, IsReady}
 use Rattle.ref_store.specs.Store.{committed, HasRoomFor, IsAbove, Kept}
 use Rattle.ref_store.proofs.CommitLaws.{all_ready}
-use Rattle.ref_store.proofs.StoreLaws.{above_committed, reads_below, reads_from}
+use Rattle.ref_store.proofs.StoreLaws.{above_committed, one_committed, reads_below, reads_from}
 use Rattle.ref_store.proofs.store.Store.commit.Goals as goal
 
 pub commit-requires-clause-ready : goal.commit-requires-clause-ready
@@ -33,3 +33,12 @@ returns-clause-above c =
     (c.commit.ensures.shows ∙ ap (λ (k : Kept). committed k.versions c.into_items.result.items c.args.number) c.self.view_is
     ∙ ap (λ (ws : Named Value). committed c.args.self.now.versions ws c.args.number) c.into_items.ensures.items)
     c.requires.above
+
+pub invariant_of-self : goal.invariant_of-self
+invariant_of-self c = record {
+  rises = c.commit.ensures.rises;
+  watched = c.commit.ensures.watched c.self.inside.watched.items c.self.invariant.watched;
+  few =
+      c.one_more-self-inside.ensures (versions_in c.self.inside.refs.entries) (versions_in c.commit.new.refs.entries)
+      (one_committed (versions_in c.self.inside.refs.entries) (versions_in c.commit.new.refs.entries) c.into_items.result.items c.args.number c.into_items.ensures.rises c.commit.ensures.shows) c.self.invariant.few;
+}

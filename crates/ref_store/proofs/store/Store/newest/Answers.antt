@@ -11,21 +11,21 @@ use Rattle.ref_store.proofs.store.Store.newest.Goals as goal
 pub returns-in-Some : goal.returns-in-Some
 returns-in-Some c =
     let name = c.args.name.now in
-    let items = held name c.self.inside.refs.entries c.args.self.now c.in-Some.versions.now c.self.invariant c.self.view_is (sym c.find.ensures ∙ ap option_copied c.in-Some.is) in
+    let items = held name c.self.inside.refs.entries c.args.self.now c.in-Some.versions.now c.self.invariant.rises c.self.view_is (sym c.find.ensures ∙ ap option_copied c.in-Some.is) in
     let version = c.newest.ensures.version ∙ ap newest items in
     record {
       version = version;
       highest = subst (λ (o : Option Version). IsHighest (versions_of c.args.self.now.versions name) o) (sym version)
           (highest_is (versions_of c.args.self.now.versions name) (subst (λ (vs : List Version). NumbersRise vs) items c.newest.ensures.rises));
-      rises = subst (λ (k : Kept). Rises k.versions) c.self.view_is (rises_shown c.self.inside.refs.entries c.self.invariant);
+      rises = subst (λ (k : Kept). Rises k.versions) c.self.view_is (rises_shown c.self.inside.refs.entries c.self.invariant.rises);
     }
 
 pub returns-in-None : goal.returns-in-None
 returns-in-None c =
     let name = c.args.name.now in
-    let nothing = held_nothing name c.self.inside.refs.entries c.args.self.now c.self.invariant c.self.view_is (sym c.find.ensures ∙ ap option_copied c.in-None.is) in
+    let nothing = held_nothing name c.self.inside.refs.entries c.args.self.now c.self.invariant.rises c.self.view_is (sym c.find.ensures ∙ ap option_copied c.in-None.is) in
     record {
       version = ap newest nothing;
       highest = sym nothing;
-      rises = subst (λ (k : Kept). Rises k.versions) c.self.view_is (rises_shown c.self.inside.refs.entries c.self.invariant);
+      rises = subst (λ (k : Kept). Rises k.versions) c.self.view_is (rises_shown c.self.inside.refs.entries c.self.invariant.rises);
     }

@@ -1,7 +1,7 @@
 use Rattle.std.proofs.Common.{◌≡◌, sym, ap, subst, inl, inr, OnOk}
 use Rattle.scope_check.specs.Declaring.{declare_shape}
-use Rattle.scope_check.specs.Shapes.{Shows, shape_of}
-use Rattle.scope_check.proofs.Shown.{shown_function, shown_behaviour, shown_global, shown_value, shown_malformed}
+use Rattle.scope_names.specs.Shapes.{Shows, shape_of}
+use Rattle.scope_names.proofs.Shown.{shown_function, shown_behaviour, shown_global, shown_value, shown_malformed}
 use Rattle.scope_check.proofs.declared.Declared.declare.Goals as goal
 
 pub returns-in-Function : goal.returns-in-Function

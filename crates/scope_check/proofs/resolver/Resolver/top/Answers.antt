@@ -1,8 +1,8 @@
 use Rattle.std.proofs.Common.{sym, subst, IfOk}
 use Rattle.scope_check.specs.Moves.{GivesTop}
-use Rattle.scope_check.specs.Shapes.{Shows, shape_of}
+use Rattle.scope_names.specs.Shapes.{Shows, shape_of}
 use Rattle.scope_check.specs.Tops.{shaped_top}
-use Rattle.scope_check.proofs.Shown.{shown_function, shown_behaviour, shown_global, shown_malformed}
+use Rattle.scope_names.proofs.Shown.{shown_function, shown_behaviour, shown_global, shown_malformed}
 use Rattle.scope_check.proofs.resolver.Resolver.top.Goals as goal
 
 pub returns-in-Function : goal.returns-in-Function

@@ -56,10 +56,10 @@ fork-returns-clause-made t c =
 pub run-returns-clause-done : goal.run-returns-clause-done
 run-returns-clause-done t c =
     let old = c.args.self.now in
-    IfOk-weaker c.run_above.result _ _ (λ done is known knows.
+    IfOk-weaker c.run_above-done.result _ _ (λ done is known knows.
     begun_done (around_of c.args.around.now) c.args.levels c.args.name.now c.in_ok-machine.machine c.args.body c.args.values (view_of (with_top old.below.items old.top)) known
-    c.run_above.new.self.results.entries (with_top old.below.items old.top) done.task done.end
-    c.in_ok-machine.ensures.body c.in_ok-machine.ensures.values c.in_ok-machine.ensures.answers (is known knows)) c.run_above.ensures.done
+    c.run_above-done.new.self.results.entries (with_top old.below.items old.top) done.task done.end
+    c.in_ok-machine.ensures.body c.in_ok-machine.ensures.values c.in_ok-machine.ensures.answers (is known knows)) c.run_above-done.ensures.done
 
 pub run_above-returns-in-Ok-clause-results : goal.run_above-returns-in-Ok-clause-results
 run_above-returns-in-Ok-clause-results t c =

@@ -40,14 +40,14 @@ returns c =
     record {
       row = row-for old.board name (λ (x : Unit). Forks old name x c.args.child.body c.args.child.values c.settle.result new) is.unit is.there (record {
         none = subst (λ n. piece_at old.board n ≡ None) made_so.name_is c.requires.forking.none;
-        child = record { name = forked.name; kind = kind.Plain; machine = c.args.child; made = 0; mark = mark.Ready work.Eval };
+        child = record { name = forked.name; kind = kind.Plain; machine = c.args.child; made = 0; becomes = None; mark = mark.Ready work.Eval };
         board = board;
         begins = record {
           state = ap (λ as_given. record (new_unit None c.args.child.body c.args.child.values) { answers = as_given }) c.requires.begins.none;
           machine = c.requires.begins.is;
           mark = refl;
         };
-        put = subst (λ n. IsPutAt n (Some (piece.Unit (record { name = forked.name; kind = kind.Plain; machine = c.args.child; made = 0; mark = mark.Ready work.Eval }))) old.board board) made_so.name_is put;
+        put = subst (λ n. IsPutAt n (Some (piece.Unit (record { name = forked.name; kind = kind.Plain; machine = c.args.child; made = 0; becomes = None; mark = mark.Ready work.Eval }))) old.board board) made_so.name_is put;
         settles = subst (λ k. Settles base name is.unit (record (unit_state is.unit) { answers = is.unit.machine.answers ++ answer.Value (value.Future k) ∷ []; made = suc is.unit.made }) c.settle.result new) made_so.told_is
             (subst (λ m. Settles base name is.unit (record (unit_state is.unit) { answers = is.unit.machine.answers ++ answer.Value (value.Future forked.told) ∷ []; made = m }) c.settle.result new) made_so.count_is row);
       });

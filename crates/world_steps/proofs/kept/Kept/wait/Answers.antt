@@ -19,8 +19,8 @@ returns c =
     record {
       row = row-for old.board name (λ (x : Unit). Waits old name x c.args.future (given.Waiting (wait.Finish c.in_ok-told.told)) new) is.unit is.there (record {
         found_is = ap (λ n. given.Waiting (wait.Finish n)) c.in_ok-told.ensures;
-        marked = marked-so old old new name c.args.moved c.made_of-made.result waiting c.requires.stands is refl made c.move_to.ensures refl;
+        marked = marked-so old old new name c.args.moved c.made_of-made.result waiting is (c.requires.stands.machines name is.unit is.there) refl made c.move_to.ensures refl;
         others = refl;
       });
-      claims = shift-claims old old new name c.args.moved c.made_of-made.result waiting c.requires.stands is refl made c.move_to.ensures refl;
+      claims = shift-claims old old new name c.args.moved c.made_of-made.result waiting is (c.requires.stands.machines name is.unit is.there) refl made c.move_to.ensures refl;
     }

@@ -1,0 +1,4 @@
+pub mod BoxLaws
+pub mod Crossing
+pub mod Held
+pub mod Waiting

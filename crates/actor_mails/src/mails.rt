@@ -1,0 +1,228 @@
+ghost use Rattle.std.specs.Prelude.{◌≡◌, ◌↔◌, ◌+◌, ◌<◌, ◌≤◌, [], ◌∷◌, ◌++◌, length, IsOk, IsTrue, MatchOption, None, OnErr, OnOk, Some, slice_get};
+ghost use Rattle.value_core.specs.Named.{named, Rises};
+ghost use Rattle.actor_mails.specs.Mails.{held, mail_at, room_at, IsMailed, KeepsRoom, KeepsRoomBut, NoMail, SameMailBut};
+
+use actor_mailbox::{Mailbox, Message};
+use std::alloc::{AllocError, Global};
+use std::collections::BTreeMap;
+use std::marker::Model;
+use value_core::{Name, name_map};
+
+/// The mail of each actor, by its name. Contracts see the messages that wait for an actor, in order of arrival, and for
+/// how many more there is room.
+#[derive(Drop)]
+pub struct Mails {
+    boxes: BTreeMap<Name, Mailbox>,
+}
+
+impl Model for Mails {
+    ghost use Rattle.value_core.specs.Named.{Rises};
+    ghost use Rattle.actor_mails.specs.Mails.{boxes_code, Boxes};
+
+    ghost Value = { Boxes };
+
+    ghost coded = { boxes_code };
+
+    ghost view = { λ m. m.boxes.entries };
+
+    ghost invariant = { λ m. Rises m.boxes.entries };
+}
+
+impl Mails {
+    /// Nobody has mail. It takes no memory.
+    pub fn new(alloc: Global) -> Self
+        ensures { held result ≡ [] }
+    {
+        Mails {
+            boxes: BTreeMap::new(alloc),
+        }
+    }
+
+    /// Makes room for `more` further messages to that actor, or finds no memory; where there is room it takes none. All
+    /// mail stays, and no actor has less room.
+    pub fn reserve(&mut self, alloc: Global, to: &Name, more: usize) -> Result<(), AllocError>
+        ensures mail { held self.new ≡ held self.old }
+        ensures room { OnOk result (more ≤ room_at self.new to.now) }
+        ensures kept { KeepsRoom self.old self.new }
+        ensures succeeds { more ≤ room_at self.old to.now → IsOk result }
+    {
+        reserve(&mut self.boxes, alloc, to, more)
+    }
+
+    /// Puts the message behind those that wait for that actor, for which there must be room. The mail and the room of the
+    /// others stay. It takes no memory.
+    pub fn put(&mut self, to: &Name, message: Message)
+        requires { 0 < room_at self.old to.now }
+        ensures mail { IsMailed to.now (mail_at (held self.old) to.now ++ message ∷ []) (held self.old) (held self.new) }
+        ensures room { room_at self.old to.now ≤ room_at self.new to.now + 1 }
+        ensures kept { KeepsRoomBut to.now self.old self.new }
+    {
+        put(&mut self.boxes, to, message);
+    }
+
+    /// Puts the message behind those that wait for that actor, or finds no memory. The mail of the others stays, and all
+    /// mail does for want of memory; no other actor has less room.
+    pub fn push(&mut self, alloc: Global, to: &Name, message: Message) -> Result<(), AllocError>
+        ensures mail { OnOk result (IsMailed to.now (mail_at (held self.old) to.now ++ message ∷ []) (held self.old) (held self.new)) }
+        ensures same { OnErr result (held self.new ≡ held self.old) }
+        ensures room { room_at self.old to.now ≤ room_at self.new to.now + 1 }
+        ensures kept { KeepsRoomBut to.now self.old self.new }
+    {
+        self.reserve(alloc, to, 1)?;
+        self.put(to, message);
+        Ok(())
+    }
+
+    /// Puts the messages of a mailbox, in their order, behind those that wait for that actor, for which there must be room.
+    /// The mail and the room of the others stay. It takes no memory.
+    pub fn append(&mut self, to: &Name, more: Mailbox)
+        requires { length more.items ≤ room_at self.old to.now }
+        ensures mail { IsMailed to.now (mail_at (held self.old) to.now ++ more.items) (held self.old) (held self.new) }
+        ensures room { room_at self.old to.now ≤ room_at self.new to.now + length more.items }
+        ensures kept { KeepsRoomBut to.now self.old self.new }
+    {
+        append(&mut self.boxes, to, more);
+    }
+
+    /// The message that has waited longest for that actor, and none exactly where none waits. It takes no memory.
+    pub fn front(&self, actor: &Name) -> Option<&Message>
+        ensures { MatchOption result (mail_at (held self.now) actor.now ≡ []) (λ message. slice_get (mail_at (held self.now) actor.now) 0 ≡ Some message.now) }
+    {
+        match name_map::find(&self.boxes, actor) {
+            Some(mailbox) => mailbox.front(),
+            None => None,
+        }
+    }
+
+    /// Whether no message waits for anybody. It takes no memory.
+    pub fn is_empty(&self) -> bool
+        ensures { IsTrue result ↔ NoMail (held self.now) }
+    {
+        are_empty(&self.boxes)
+    }
+
+    /// Takes the message that has waited longest for that actor, and none exactly where none waits. The mail of the others
+    /// stays, and no actor has less room. It takes no memory.
+    pub fn take(&mut self, actor: &Name) -> Option<Message>
+        ensures taken { MatchOption result ((mail_at (held self.old) actor.now ≡ []) × (held self.new ≡ held self.old)) (λ message. (mail_at (held self.old) actor.now ≡ message ∷ mail_at (held self.new) actor.now) × SameMailBut actor.now (held self.old) (held self.new)) }
+        ensures room { KeepsRoom self.old self.new }
+    {
+        take(&mut self.boxes, actor)
+    }
+
+    /// The boxes by name; the mail is given up for them.
+    pub fn into_boxes(self) -> BTreeMap<Name, Mailbox>
+        ensures boxes { result.entries ≡ self }
+        ensures rises { Rises result.entries }
+    {
+        self.boxes
+    }
+}
+
+fn reserve(
+    boxes: &mut BTreeMap<Name, Mailbox>,
+    alloc: Global,
+    to: &Name,
+    more: usize,
+) -> Result<(), AllocError>
+    ensures mail { held boxes.new.entries ≡ held boxes.old.entries }
+    ensures room { OnOk result (more ≤ room_at boxes.new.entries to.now) }
+    ensures kept { KeepsRoom boxes.old.entries boxes.new.entries }
+    ensures succeeds { more ≤ room_at boxes.old.entries to.now → IsOk result }
+    ensures rises { Rises boxes.old.entries → Rises boxes.new.entries }
+{
+    match boxes.get_mut(to) {
+        Some(mailbox) => mailbox.reserve(more),
+        None => {
+            if more == 0 {
+                return Ok(());
+            }
+            add_box(boxes, alloc, to, more)
+        }
+    }
+}
+
+/// Gives the actor a box of its own, with room for so many messages.
+fn add_box(
+    boxes: &mut BTreeMap<Name, Mailbox>,
+    alloc: Global,
+    to: &Name,
+    room: usize,
+) -> Result<(), AllocError>
+    requires { named to.now boxes.old.entries ≡ None }
+    ensures mail { held boxes.new.entries ≡ held boxes.old.entries }
+    ensures room { OnOk result (room ≤ room_at boxes.new.entries to.now) }
+    ensures kept { KeepsRoom boxes.old.entries boxes.new.entries }
+    ensures rises { Rises boxes.old.entries → Rises boxes.new.entries }
+{
+    let mut mailbox = Mailbox::new(alloc);
+    mailbox.reserve(room)?;
+    name_map::put(boxes, to.copy(alloc)?, mailbox)
+}
+
+fn put(boxes: &mut BTreeMap<Name, Mailbox>, to: &Name, message: Message)
+    requires { 0 < room_at boxes.old.entries to.now }
+    ensures mail { IsMailed to.now (mail_at (held boxes.old.entries) to.now ++ message ∷ []) (held boxes.old.entries) (held boxes.new.entries) }
+    ensures room { room_at boxes.old.entries to.now ≤ room_at boxes.new.entries to.now + 1 }
+    ensures kept { KeepsRoomBut to.now boxes.old.entries boxes.new.entries }
+    ensures rises { Rises boxes.old.entries → Rises boxes.new.entries }
+{
+    if let Some(mailbox) = boxes.get_mut(to) {
+        put_last(mailbox, message);
+    }
+}
+
+/// Puts the message behind those of the mailbox, which has room for it.
+fn put_last(mailbox: &mut Mailbox, message: Message)
+    requires { 0 < mailbox.old.room }
+    ensures items { mailbox.new.items ≡ mailbox.old.items ++ message ∷ [] }
+    ensures room { mailbox.old.room ≤ mailbox.new.room + 1 }
+{
+    let _ = mailbox.put(message);
+}
+
+fn append(boxes: &mut BTreeMap<Name, Mailbox>, to: &Name, more: Mailbox)
+    requires { length more.items ≤ room_at boxes.old.entries to.now }
+    ensures mail { IsMailed to.now (mail_at (held boxes.old.entries) to.now ++ more.items) (held boxes.old.entries) (held boxes.new.entries) }
+    ensures room { room_at boxes.old.entries to.now ≤ room_at boxes.new.entries to.now + length more.items }
+    ensures kept { KeepsRoomBut to.now boxes.old.entries boxes.new.entries }
+    ensures rises { Rises boxes.old.entries → Rises boxes.new.entries }
+{
+    if let Some(mailbox) = boxes.get_mut(to) {
+        move_into(mailbox, more);
+    }
+}
+
+/// Moves all messages of the one mailbox behind those of the other, which has room for them.
+fn move_into(mailbox: &mut Mailbox, mut more: Mailbox)
+    requires { length more.items ≤ mailbox.old.room }
+    ensures items { mailbox.new.items ≡ mailbox.old.items ++ more.items }
+    ensures room { mailbox.old.room ≤ mailbox.new.room + length more.items }
+{
+    while let Some(message) = more.take() {
+        put_last(mailbox, message);
+    }
+}
+
+/// Whether no box has a message.
+fn are_empty(boxes: &BTreeMap<Name, Mailbox>) -> bool
+    ensures { IsTrue result ↔ NoMail (held boxes.now.entries) }
+{
+    for mailbox in boxes.values() {
+        if mailbox.front().is_some() {
+            return false;
+        }
+    }
+    true
+}
+
+fn take(boxes: &mut BTreeMap<Name, Mailbox>, actor: &Name) -> Option<Message>
+    ensures taken { MatchOption result ((mail_at (held boxes.old.entries) actor.now ≡ []) × (held boxes.new.entries ≡ held boxes.old.entries)) (λ message. (mail_at (held boxes.old.entries) actor.now ≡ message ∷ mail_at (held boxes.new.entries) actor.now) × SameMailBut actor.now (held boxes.old.entries) (held boxes.new.entries)) }
+    ensures room { KeepsRoom boxes.old.entries boxes.new.entries }
+    ensures rises { Rises boxes.old.entries → Rises boxes.new.entries }
+{
+    match boxes.get_mut(actor) {
+        Some(mailbox) => mailbox.take(),
+        None => None,
+    }
+}

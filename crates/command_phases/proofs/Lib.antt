@@ -1,0 +1,9 @@
+pub mod EndWrites
+pub mod Loading
+pub mod PairErrors
+pub mod PairLoads
+pub mod Pieces
+pub mod Said
+pub mod Statuses
+pub mod ToldTexts
+pub mod Unloaded

@@ -1,0 +1,7 @@
+-- The text is the pieces before the index.
+use Rattle.std.proofs.Common.{◌≡◌, take}
+use Rattle.std.specs.Prelude.{flat_map}
+use Rattle.command_phases.proofs.lines.joined.Given as goal
+
+abbrev pub invariant-loop-piece : goal.invariant-loop-piece
+invariant-loop-piece l = l.text.items ≡ flat_map (λ piece. piece.now) (take l.piece-index l.pieces)

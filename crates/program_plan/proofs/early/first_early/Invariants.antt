@@ -1,6 +1,0 @@
-use Rattle.std.proofs.Common.{◌≡◌, drop}
-use Rattle.program_plan.specs.Early.{first_early}
-use Rattle.program_plan.proofs.early.first_early.Given as goal
-
-abbrev pub invariant-loop-form : goal.invariant-loop-form
-invariant-loop-form l = first_early (drop l.form-index l.form-items) l.reached ≡ first_early l.survey.forms l.reached

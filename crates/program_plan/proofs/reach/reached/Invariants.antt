@@ -1,5 +1,0 @@
-use Rattle.program_plan.specs.Reach.{AreReached}
-use Rattle.program_plan.proofs.reach.reached.Given as goal
-
-abbrev pub invariant-loop-global : goal.invariant-loop-global
-invariant-loop-global l = AreReached l.uses l.global l.lists.items

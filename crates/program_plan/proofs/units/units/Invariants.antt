@@ -1,6 +1,0 @@
-use Rattle.std.proofs.Common.{◌≡◌, ◌++◌, map, drop}
-use Rattle.program_plan.specs.Plan.{all_units}
-use Rattle.program_plan.proofs.units.units.Given as goal
-
-abbrev pub invariant-loop-one : goal.invariant-loop-one
-invariant-loop-one l = l.units ++ map (λ one. one.uses) (drop l.one-index l.one-items) ≡ all_units l.survey

@@ -1,5 +1,0 @@
-use Rattle.scope_check.proofs.OpNames.{op_named_as}
-use Rattle.scope_check.proofs.lists.op_with.Goals as goal
-
-pub returns : goal.returns
-returns c = op_named_as _ _ c.op_named.ensures

@@ -1,0 +1,487 @@
+-- How the marks stay right, whatever a task comes to.
+use Rattle.std.proofs.Common.{◌≡◌, ◌∙◌, ◌⊎◌, Bool, true, false, cond, inl, inr, refl, sym, ap, subst}
+use Rattle.std.specs.Option.{option_and_then, option_map}
+use Rattle.std.specs.Prelude.{ℕ, Option, None, Some, if◌then◌else◌, is_some}
+use Rattle.actor_mails.specs.Mails.{SameMail, mail_at}
+use Rattle.eval_step.specs.Evaluation.{Evaluation}
+use Rattle.ref_store.specs.declared.version.Version.{Version}
+use Rattle.ref_store.specs.Store.{versions_of}
+use Rattle.ref_store.specs.Version.{newest}
+use Rattle.serial_model.specs.declared.halt.Halt.{Halt}
+use Rattle.serial_model.specs.declared.halt.Halt.TheVariants as halt
+use Rattle.serial_model.specs.declared.request.Request.TheVariants as request
+use Rattle.serial_model.specs.State.{UnitState}
+use Rattle.shared_world.proofs.Besides.{apart-of}
+use Rattle.shared_world.proofs.Live.{unit-piece}
+use Rattle.shared_world.proofs.MarkedActors.{acts-marked}
+use Rattle.shared_world.proofs.MarkedGone.{marked-gone}
+use Rattle.shared_world.proofs.MarkedSteps.{IsWithChild, forked-not, forked-so, forks_it, marked-step, says_ended}
+use Rattle.shared_world.proofs.MarkedUnits.{ends-going, root-piece}
+use Rattle.shared_world.proofs.Marks.{AreMarkedBut, but-one, marked-set}
+use Rattle.shared_world.proofs.States.{task-set}
+use Rattle.task_fork_join.proofs.StepShapes.{GoesAt, IsAfter, IsShaped, WaitsPlain, shaped}
+use Rattle.shared_world.proofs.Steps.{goes-with}
+use Rattle.shared_world.specs.declared.given.Given.{Given}
+use Rattle.shared_world.specs.Gave.{GaveTask}
+use Rattle.shared_world.specs.Marks as marks
+use Rattle.shared_world.specs.Marks.{AreMarked, IsTaskPiece, IsToCome, TaskSays, UnitSays}
+use Rattle.shared_world.specs.Returned.{halt_of}
+use Rattle.shared_world.specs.rows.Attempts.{Aborts, AttemptGoes, Commits, TasksGo}
+use Rattle.shared_world.specs.rows.Pieces.{IsSet, task_gone}
+use Rattle.shared_world.specs.rows.Tasks as row
+use Rattle.shared_world.specs.rows.Tasks.{AfterStep, EndGives, IsMarkedTask, Missing, RootGives, StepGives, TaskGives, outer_of}
+use Rattle.task_fork_join.specs.Stepping.{is_held_back}
+use Rattle.shared_world.specs.Shared.{Shared, finished_at, finished_by, is_going, state_at, unit_state}
+use Rattle.shared_world.specs.Stands.{Stands}
+use Rattle.task_fork_join.specs.Attempt.{Attempt, end_at, end_by, end_of, machine_of}
+use Rattle.task_fork_join.specs.declared.stepped.Stepped.{Stepped}
+use Rattle.task_fork_join.specs.declared.stepped.Stepped.TheVariants as stepped
+use Rattle.task_fork_join.specs.declared.task.Stage.{Stage}
+use Rattle.task_fork_join.specs.declared.task.Stage.TheVariants as kept
+use Rattle.task_fork_join.specs.declared.task.Task.{Task}
+use Rattle.task_fork_join.specs.declared.task_end.TaskEnd.{TaskEnd}
+use Rattle.task_fork_join.specs.declared.task_end.TaskEnd.TheVariants as end
+use Rattle.task_fork_join.specs.Joining.{IsGoing}
+use Rattle.task_fork_join.specs.Step.{IsStep}
+use Rattle.txn_snapshot.specs.SnapshotAnswer.{snapshot_of}
+use Rattle.unit_table.specs.Board.{Board, piece_at, unit_at}
+use Rattle.unit_table.specs.declared.mark.Mark.{Mark}
+use Rattle.unit_table.specs.declared.mark.Mark.TheVariants as mark
+use Rattle.unit_table.specs.declared.mark.WaitOn.TheVariants as wait
+use Rattle.unit_table.specs.declared.mark.Work.TheVariants as work
+use Rattle.unit_table.specs.declared.piece.Piece.{Piece}
+use Rattle.unit_table.specs.declared.piece.Piece.TheVariants as piece
+use Rattle.unit_table.specs.declared.unit.Unit.{Unit as Doing}
+use Rattle.unit_table.specs.Piece.{says_finished, unit_in}
+use Rattle.value_core.proofs.NamedLaws.{named-here, named-with_named, same_name-equal, same_name-itself}
+use Rattle.value_core.specs.declared.value.Value.{Value}
+use Rattle.value_core.specs.declared.value.Value.TheVariants as value
+use Rattle.value_core.specs.NameSet.{has_name}
+use Rattle.value_core.specs.Named.{Name, Named, named, same_name, with_named}
+
+none-by : (escape : TaskEnd) (o : Option TaskEnd) → end_by escape o ≡ None → o ≡ None
+none-by escape None e = refl
+none-by escape (Some ended) e = cc
+
+going-open : (s : Stage) → IsGoing s → end_of s ≡ None
+going-open (kept.Going machine) is = refl
+going-open (kept.Ended ended) is = absurd is
+
+-- The tasks of an attempt of a unit, as they are once one of them has taken a step: those that it had, a child that is no piece
+-- yet, and where it is.
+pub record HasTasks (old : Shared) (u : Name) (tree after : Attempt) : Type 0 where
+  pub root : after.root ≡ tree.root
+  pub only : (n : Name) (t : Task) → named n after.tasks ≡ Some t → ((k : Task) × (named n tree.tasks ≡ Some k)) ⊎ (piece_at old.board n ≡ None)
+  pub all : (n : Name) (k : Task) → named n tree.tasks ≡ Some k → (t : Task) × (named n after.tasks ≡ Some t)
+
+same-tasks : (old : Shared) (u : Name) (tree : Attempt) → HasTasks old u tree tree
+same-tasks old u tree = record { root = refl; only = λ n t is. inl (t, is); all = λ n k is. (k, is) }
+
+-- what is kept, with those tasks of the attempt
+pub record IsBase (old : Shared) (u : Name) (after : Attempt) (base : Shared) : Type 0 where
+  pub attempts : (v : Name) → named v base.attempts ≡ cond (same_name v u) (Some after) (named v old.attempts)
+  pub board : base.board ≡ old.board
+  pub mails : base.mails ≡ old.mails
+  pub owners : base.owners ≡ old.owners
+  pub setup : base.setup ≡ old.setup
+
+module _ (old : Shared) (marked : AreMarked old) (u : Name) (x : Doing) (tree after : Attempt) (unit_there : unit_at old.board u ≡ Some x) (there : named u old.attempts ≡ Some tree) (tasks : HasTasks old u tree after) (base : Shared) (is_base : IsBase old u after base) where
+  -- the attempt is gone
+  gone : (new : Shared) (y : Doing) → AttemptGoes base u y after new → new.setup ≡ base.setup → new.owners ≡ base.owners → SameMail base.mails new.mails → finished_by y.mark ≡ None → (named u new.attempts ≡ None → UnitSays new u y y.mark) → AreMarked new
+  gone new y goes setup owners mails unfinished says = marked-gone old new marked u x y tree after unit_there there (record {
+    setup = setup ∙ is_base.setup;
+    owners = owners ∙ is_base.owners;
+    attempts = left;
+    tasks = subst (λ (b : Board). TasksGo u y after b new.board) is_base.board goes.tasks;
+    mails = λ a. mails a ∙ ap (λ m. mail_at m a) is_base.mails;
+    only = tasks.only;
+    all = tasks.all;
+    unfinished = unfinished;
+    says = says (left u ∙ ap (λ c. cond c None (named u old.attempts)) (same_name-itself u));
+  })
+    where
+      left : (v : Name) → named v new.attempts ≡ cond (same_name v u) None (named v old.attempts)
+      left v = goes.attempts v ∙ on (same_name v u) (is_base.attempts v)
+        where
+          on : (c : Bool) → named v base.attempts ≡ cond c (Some after) (named v old.attempts) → cond c None (named v base.attempts) ≡ cond c None (named v old.attempts)
+          on true e = refl
+          on false e = e
+
+  aborts : (ref : Name) (version : ℕ) (found : Given) (new : Shared) → Aborts base u x after ref version found new → AreMarked new
+  aborts ref version found new r = gone new r.unit r.goes (ap (λ (s : Shared). s.setup) r.others) (ap (λ (s : Shared). s.owners) r.others) (λ a. ap (λ (s : Shared). mail_at s.mails a) r.others) (ap finished_by r.stands.mark) (λ none. subst (λ m. UnitSays new u r.unit m) (sym r.stands.mark) none)
+
+  misses : (ref : Name) (o : Option Version) (found : Given) (new : Shared) → Missing base u x after ref o found new → AreMarked new
+  misses ref None found new r = absurd r
+  misses ref (Some version) found new r = aborts ref version.number found new r
+
+  -- the attempt is gone, and then its effects are there
+  commits : (v : Value) (found : Given) (new : Shared) → Commits base u x after v found new → AreMarked new
+  commits v found new r = acts-marked u r.log.log.effects base left new left-marked refl refl refl r.acts nothing r.mails
+    where
+      left : Shared
+      left = record new { board = r.board; mails = base.mails }
+
+      left-marked : AreMarked left
+      left-marked = gone left r.unit (record { attempts = r.goes.attempts; tasks = r.goes.tasks }) (ap (λ (s : Shared). s.setup) r.others) (ap (λ (s : Shared). s.owners) r.others) (λ a. refl) (ap finished_by r.stands.mark) (λ none. subst (λ m. UnitSays left u r.unit m) (sym r.stands.mark) none)
+
+      nothing : (a : Name) → piece_at base.board a ≡ None → piece_at r.board a ≡ None
+      nothing a none = r.goes.tasks.others a other ∙ ap (λ found. cond (is_some (named a after.tasks)) (task_gone found) found) none ∙ still (is_some (named a after.tasks))
+        where
+          other : a ≡ u → ⊥
+          other same = let no : None ≡ Some (piece.Unit x) = sym none ∙ ap (piece_at base.board) same ∙ ap (λ (b : Board). piece_at b u) is_base.board ∙ unit-piece old.board u x unit_there in cc
+
+          still : (c : Bool) → cond c (task_gone None) None ≡ None
+          still true = refl
+          still false = refl
+
+  ends : (ended : TaskEnd) (found : Given) (new : Shared) → is_going new.end ≡ true → EndGives base u x after ended found new → AreMarked new
+  ends (end.Value v) found new on_going r = commits v found new r
+  ends (end.Fault failed at) found new on_going r = absurd (ends-going base _ _ found new r on_going)
+  ends end.Spent found new on_going r = absurd (ends-going base _ _ found new r on_going)
+
+  pub roots : (ended : TaskEnd) (found : Given) (new : Shared) → is_going new.end ≡ true → RootGives base u x after ended found new → AreMarked new
+  roots ended found new on_going (row.valid unchanged gives) = ends ended found new on_going gives
+  roots ended found new on_going (row.conflicts c) = aborts c.ref c.conflict.version found new c.aborts
+
+-- the attempt as it is kept
+kept-base : (old : Shared) (u : Name) (tree : Attempt) → named u old.attempts ≡ Some tree → IsBase old u tree old
+kept-base old u tree there = record { attempts = λ v. own v (same_name v u) refl; board = refl; mails = refl; owners = refl; setup = refl }
+  where
+    own : (v : Name) (c : Bool) → same_name v u ≡ c → named v old.attempts ≡ cond (same_name v u) (Some tree) (named v old.attempts)
+    own v true e = ap (λ q. named q old.attempts) (same_name-equal v u e) ∙ there ∙ sym (ap (λ c. cond c (Some tree) (named v old.attempts)) e)
+    own v false e = sym (ap (λ c. cond c (Some tree) (named v old.attempts)) e)
+
+-- an attempt is undone
+pub undone-marked : (old : Shared) → AreMarked old → (u : Name) (x : Doing) (tree : Attempt) → unit_at old.board u ≡ Some x → named u old.attempts ≡ Some tree → (ref : Name) (version : ℕ) (found : Given) (new : Shared) → Aborts old u x tree ref version found new → AreMarked new
+undone-marked old marked u x tree unit_there there ref version found new r = aborts old marked u x tree tree unit_there there (same-tasks old u tree) old (kept-base old u tree there) ref version found new r
+
+-- a task of an attempt takes a step, whatever comes of it
+module _ (old : Shared) (st : Stands old) (marked : AreMarked old) (going : is_going old.end ≡ true) (u task : Name) (x : Doing) (tree : Attempt) (m : Mark) (at_task : piece_at old.board task ≡ Some (piece.Task m)) (of : named task old.owners ≡ Some u)
+    (unit_there : unit_at old.board u ≡ Some x) (there : named u old.attempts ≡ Some tree) (before : end_at tree ≡ None) (machine moved : Evaluation) (is : machine_of tree task ≡ Some machine) (after : Attempt) (went : Stepped)
+    (step : IsStep (snapshot_of old.versions tree.snapshot) task moved (outer_of old.board (halt_of old.setup.program machine)) (halt_of old.setup.program machine) tree after went) where
+  abbrev h : Halt
+  h = halt_of old.setup.program machine
+
+  abbrev outer : Option Value
+  outer = outer_of old.board h
+
+  in_tree : (t : Task) × (named task tree.tasks ≡ Some t)
+  in_tree = let it = goes-with tree task machine is in (it.task, it.there)
+
+  shape : IsShaped tree.tasks task outer h went after.tasks
+  shape = shaped _ task moved outer tree after went in_tree.0 in_tree.1 h step.comes
+
+  -- where the root was not at its end and is now, no child was forked
+  no-fork : (ended : TaskEnd) → end_at after ≡ Some ended → (n : Name) → forks_it went n ≡ false
+  no-fork ended is n = on (forks_it went n) refl
+    where
+      root : after.root ≡ tree.root
+      root = step.stays.root
+
+      -- how the root ended, as it is found
+      ended-by : (found : Option Task) → named tree.root after.tasks ≡ found → end_by after.escape (option_and_then (λ (t : Task). end_of t.stage) found) ≡ Some ended
+      ended-by found e = ap (λ o. end_by after.escape (option_and_then (λ (t : Task). end_of t.stage) o)) (sym (ap (λ q. named q after.tasks) root ∙ e)) ∙ is
+
+      goes : (t : Task) → named tree.root after.tasks ≡ Some t → IsGoing t.stage → ⊥
+      goes t e going = let no : None ≡ Some ended = sym (ap (end_by after.escape) (going-open t.stage going)) ∙ ended-by (Some t) e in cc
+
+      on : (c : Bool) → forks_it went n ≡ c → forks_it went n ≡ false
+      on false e = e
+      on true e = absurd (at-task (same_name tree.root task) refl)
+        where
+          forked : went ≡ stepped.Forked n
+          forked = forked-so went n e
+
+          elsewhere : (tree.root ≡ task → ⊥) → (d : Bool) → same_name tree.root n ≡ d → ⊥
+          elsewhere other true f = let begun = shape.child n forked (λ same. other (same_name-equal tree.root n f ∙ same)) in goes begun.task (ap (λ q. named q after.tasks) (same_name-equal tree.root n f) ∙ begun.there) begun.going
+          elsewhere other false f =
+              let stays : named tree.root after.tasks ≡ named tree.root tree.tasks = shape.others tree.root other (λ again. let both : stepped.Forked n ≡ stepped.Forked tree.root = sym forked ∙ again in let same : n ≡ tree.root = cc in apart-of tree.root n f (sym same)) in
+              let inner : option_and_then (λ (t : Task). end_of t.stage) (named tree.root tree.tasks) ≡ None = none-by tree.escape (option_and_then (λ (t : Task). end_of t.stage) (named tree.root tree.tasks)) before in
+              let no : None ≡ Some ended = sym (ap (end_by after.escape) inner) ∙ ended-by (named tree.root tree.tasks) stays in cc
+
+          at-task : (c : Bool) → same_name tree.root task ≡ c → ⊥
+          at-task true f = goes shape.after (ap (λ q. named q after.tasks) (same_name-equal tree.root task f) ∙ shape.here) (subst (λ w. IsAfter tree.tasks outer h w shape.after) forked shape.is)
+          at-task false f = elsewhere (apart-of tree.root task f) (same_name tree.root n) refl
+
+  has-tasks : ((n : Name) → forks_it went n ≡ false) → HasTasks old u tree after
+  has-tasks none = record {
+    root = step.stays.root;
+    only = λ n t e. only n t (same_name n task) refl e;
+    all = λ n k e. all n k (same_name n task) refl e;
+  }
+    where
+      only : (n : Name) (t : Task) (c : Bool) → same_name n task ≡ c → named n after.tasks ≡ Some t → ((k : Task) × (named n tree.tasks ≡ Some k)) ⊎ (piece_at old.board n ≡ None)
+      only n t true e is = inl (in_tree.0, ap (λ q. named q tree.tasks) (same_name-equal n task e) ∙ in_tree.1)
+      only n t false e is = inl (t, sym (shape.others n (apart-of n task e) (forked-not went n (none n))) ∙ is)
+
+      all : (n : Name) (k : Task) (c : Bool) → same_name n task ≡ c → named n tree.tasks ≡ Some k → (t : Task) × (named n after.tasks ≡ Some t)
+      all n k true e is = (shape.after, ap (λ q. named q after.tasks) (same_name-equal n task e) ∙ shape.here)
+      all n k false e is = (k, shape.others n (apart-of n task e) (forked-not went n (none n)) ∙ is)
+
+  abbrev base : Shared
+  base = record old { attempts = with_named old.attempts u after }
+
+  attempt-of : (v : Name) → named v base.attempts ≡ cond (same_name v u) (Some after) (named v old.attempts)
+  attempt-of v = named-with_named v u after old.attempts
+
+  is-base : IsBase old u after base
+  is-base = record { attempts = attempt-of; board = refl; mails = refl; owners = refl; setup = refl }
+
+  finished-none : (b : Board) (k : Mark) → piece_at b task ≡ Some (piece.Task k) → finished_at b task ≡ None
+  finished-none b k e = ap (λ p. option_and_then (λ (k : UnitState). k.finished) (option_map unit_state (option_and_then unit_in p))) e
+
+  -- a root that is at its end is no task that ends without it
+  no-root : (s : Shared) → ((v : Name) → named v s.attempts ≡ cond (same_name v u) (Some after) (named v old.attempts)) → end_at after ≡ None → (end_of shape.after.stage ≡ None → ⊥)
+      → (v : Name) (some : Attempt) → named v s.attempts ≡ Some some → some.root ≡ task → ⊥
+  no-root s attempts unended ended v some at root = on (same_name v u) refl
+    where
+      on : (c : Bool) → same_name v u ≡ c → ⊥
+      on true e =
+          let both : Some after ≡ Some some = sym (attempts v ∙ ap (λ c. cond c (Some after) (named v old.attempts)) e) ∙ at in
+          let same : after ≡ some = cc in
+          let here : named after.root after.tasks ≡ Some shape.after = ap (λ q. named q after.tasks) (ap (λ (a : Attempt). a.root) same ∙ root) ∙ shape.here in
+          ended (none-by after.escape (end_of shape.after.stage) (sym (ap (λ o. end_by after.escape (option_and_then (λ (t : Task). end_of t.stage) o)) here) ∙ unended))
+      on false e =
+          let has = root-piece old st going marked v some (sym (attempts v ∙ ap (λ c. cond c (Some after) (named v old.attempts)) e) ∙ at) in
+          let both : Some u ≡ Some v = sym of ∙ ap (λ q. named q old.owners) (sym root) ∙ has.of in
+          let same : u ≡ v = cc in
+          apart-of v u e (sym same)
+
+  -- the task has the mark, in what is kept with the step
+  sets : (new s : Shared) (k : Mark) → IsSet task (piece.Task k) k s.board new.board → new.setup ≡ s.setup → new.attempts ≡ s.attempts → new.owners ≡ s.owners → SameMail s.mails new.mails
+      → ((v : Name) → named v s.attempts ≡ cond (same_name v u) (Some after) (named v old.attempts)) → named task s.owners ≡ Some u → AreMarkedBut task (says_finished k) s
+      → (says_finished k ≡ true → (v : Name) (some : Attempt) → named v s.attempts ≡ Some some → some.root ≡ task → ⊥)
+      → (end_at after ≡ None → TaskSays new.board after.tasks shape.after k) → AreMarked new
+  sets new s k set setup attempts owners mails at owned but roots says = marked-set s new task (piece.Task k) k (record {
+    set = set;
+    setup = setup;
+    attempts = attempts;
+    owners = owners;
+    mails = mails;
+    unfinished = λ e. finished-none new.board k set.here;
+    no_root = roots;
+    stays = λ j e. refl;
+    unit = λ y e. cc;
+    task = λ j e. let same : k ≡ j = cc in record {
+      owner = u;
+      of = ap (named task) owners ∙ owned;
+      tree = after;
+      attempt = ap (named u) attempts ∙ at u ∙ ap (λ c. cond c (Some after) (named u old.attempts)) (same_name-itself u);
+      task = shape.after;
+      among = shape.here;
+      says = λ unended. subst (λ q. TaskSays new.board after.tasks shape.after q) same (says unended);
+    };
+    actor = λ a e. cc;
+  }) but
+
+  -- no child was forked
+  no-child : (w : Stepped) → went ≡ w → ((n : Name) → forks_it w n ≡ false) → IsWithChild old u went base
+  no-child w so none = record {
+    setup = refl;
+    pieces = λ n. sym (ap (λ c. cond c (Some (piece.Task (mark.Ready work.Eval))) (piece_at old.board n)) (ap (λ k. forks_it k n) so ∙ none n));
+    owners = λ n. sym (ap (λ c. cond c (Some u) (named n old.owners)) (ap (λ k. forks_it k n) so ∙ none n));
+    none = λ n e. let no : true ≡ false = sym e ∙ ap (λ k. forks_it k n) so ∙ none n in cc;
+    mails = λ a. refl;
+  }
+
+  stepped-base : (w : Stepped) → went ≡ w → ((n : Name) → forks_it w n ≡ false) → (ends : Bool) → (end_at after ≡ None → says_ended w ≡ true → ends ≡ true) → AreMarkedBut task ends base
+  stepped-base w so none ends ends_so = marked-step old base marked u task tree after there before outer h went step.stays.root in_tree shape refl (no-child w so none) ends (λ unended e. ends_so unended (sym (ap says_ended so) ∙ e))
+
+  marks-task : (new : Shared) (k : Mark) (w : Stepped) → went ≡ w → ((n : Name) → forks_it w n ≡ false) → (end_at after ≡ None → says_ended w ≡ true → says_finished k ≡ true) → IsMarkedTask base task k new
+      → (says_finished k ≡ true → (v : Name) (some : Attempt) → named v base.attempts ≡ Some some → some.root ≡ task → ⊥) → (end_at after ≡ None → TaskSays new.board after.tasks shape.after k) → AreMarked new
+  marks-task new k w so none same marked_so roots says = sets new base k marked_so.set (ap (λ (s : Shared). s.setup) marked_so.others) (ap (λ (s : Shared). s.attempts) marked_so.others) (ap (λ (s : Shared). s.owners) marked_so.others) (λ a. ap (λ (s : Shared). mail_at s.mails a) marked_so.others)
+      attempt-of of (stepped-base w so none (says_finished k) same) roots says
+
+  is-after : (w : Stepped) → went ≡ w → IsAfter tree.tasks outer h w shape.after
+  is-after w so = subst (λ k. IsAfter tree.tasks outer h k shape.after) so shape.is
+
+  -- what the task waits for is still to come
+  waits-still : (new : Shared) (f : Name) → went ≡ stepped.WaitJoin f → IsSet task (piece.Task (mark.Waiting (wait.Finish f))) (mark.Waiting (wait.Finish f)) old.board new.board → IsToCome new.board after.tasks shape.after f
+  waits-still new f so set = on (same_name f task) refl (is-after (stepped.WaitJoin f) so).1
+    where
+      others : (n : Name) → (n ≡ task → ⊥) → named n after.tasks ≡ named n tree.tasks
+      others n other = shape.others n other (λ forked. let no = sym so ∙ forked in cc)
+
+      on : (c : Bool) → same_name f task ≡ c → (GoesAt tree.tasks f ⊎ WaitsPlain tree.tasks shape.after outer h f) → IsToCome new.board after.tasks shape.after f
+      on true e way = marks.task shape.after (ap (λ q. named q after.tasks) (same_name-equal f task e) ∙ shape.here) (is-after (stepped.WaitJoin f) so).0
+      on false e (inl goes) = marks.task goes.task (others f (apart-of f task e) ∙ goes.there) goes.going
+      on false e (inr plain) = marks.unit (ap (λ o. if has_name shape.after.knows f then o else None) (others f (apart-of f task e)) ∙ plain.unknown)
+          (ap (λ o. option_and_then (λ (k : UnitState). k.finished) o) (task-set task (mark.Waiting (wait.Finish f)) old.board new.board (ap (λ p. option_map unit_state (option_and_then unit_in p)) at_task) set f) ∙ sym (ap (outer_of old.board) plain.asks) ∙ plain.none)
+
+  -- a child was forked
+  module _ (new : Shared) (child : Name) (so : went ≡ stepped.Forked child) (f : row.Forked base u task child new) where
+    abbrev s : Shared
+    s = record base { owners = with_named old.owners child u; board = f.board }
+
+    fork-of : (n : Name) → forks_it went n ≡ same_name n child
+    fork-of n = ap (λ k. forks_it k n) so
+
+    owned : named task s.owners ≡ Some u
+    owned = named-with_named task child u old.owners ∙ on (same_name task child)
+      where
+        on : (c : Bool) → cond c (Some u) (named task old.owners) ≡ Some u
+        on true = refl
+        on false = of
+
+    with-child : IsWithChild old u went s
+    with-child = record {
+      setup = refl;
+      pieces = λ n. stands n (same_name n child) refl ∙ sym (ap (λ c. cond c (Some (piece.Task (mark.Ready work.Eval))) (piece_at old.board n)) (fork-of n));
+      owners = λ n. named-with_named n child u old.owners ∙ sym (ap (λ c. cond c (Some u) (named n old.owners)) (fork-of n));
+      none = λ n e. ap (piece_at old.board) (same_name-equal n child (sym (fork-of n) ∙ e)) ∙ f.none;
+      mails = λ a. refl;
+    }
+      where
+        stands : (n : Name) (c : Bool) → same_name n child ≡ c → piece_at f.board n ≡ cond (same_name n child) (Some (piece.Task (mark.Ready work.Eval))) (piece_at old.board n)
+        stands n true e = ap (piece_at f.board) (same_name-equal n child e) ∙ f.put.here ∙ sym (ap (λ c. cond c (Some (piece.Task (mark.Ready work.Eval))) (piece_at old.board n)) e)
+        stands n false e = f.put.others n (apart-of n child e) ∙ sym (ap (λ c. cond c (Some (piece.Task (mark.Ready work.Eval))) (piece_at old.board n)) e)
+
+    forked : AreMarked new
+    forked = sets new s (mark.Ready work.Eval) f.steps.set (ap (λ (k : Shared). k.setup) f.steps.others) (ap (λ (k : Shared). k.attempts) f.steps.others) (ap (λ (k : Shared). k.owners) f.steps.others) (λ a. ap (λ (k : Shared). mail_at k.mails a) f.steps.others)
+        attempt-of owned (marked-step old s marked u task tree after there before outer h went step.stays.root in_tree shape refl with-child false (λ unended e. let no : false ≡ true = sym (ap says_ended so) ∙ e in cc)) (λ e. cc) (λ unended. is-after (stepped.Forked child) so)
+
+  -- what comes of it where the root is not at its end
+  comes : (found : Given) (new : Shared) (w : Stepped) → went ≡ w → end_at after ≡ None → StepGives base u x task after w found new → AreMarked new
+  comes found new stepped.Now so unended gives = marks-task new (mark.Ready work.Eval) stepped.Now so (λ n. refl) (λ o e. cc) gives.1 (λ e. cc) (λ o. is-after stepped.Now so)
+  comes found new (stepped.Forked child) so unended gives = forked new child so gives.1
+  comes found new (stepped.WaitJoin f) so unended gives = marks-task new (mark.Waiting (wait.Finish f)) (stepped.WaitJoin f) so (λ n. refl) (λ o e. cc) gives.1 (λ e. cc)
+      (λ o. record { going = (is-after (stepped.WaitJoin f) so).0; to_come = waits-still new f so gives.1.set })
+  comes found new (stepped.NotInSnapshot ref) so unended gives = misses old marked u x tree after unit_there there (has-tasks (λ n. ap (λ w. forks_it w n) so)) base is-base ref (newest (versions_of old.versions ref)) found new gives
+  comes found new stepped.Finished so unended gives = marks-task new (mark.Finished value.Nil) stepped.Finished so (λ n. refl) (λ o e. refl) gives.1 (λ e. no-root base attempt-of unended (is-after stepped.Finished so)) (λ o. is-after stepped.Finished so)
+
+  pub step-marked : (found : Given) (new : Shared) (o : Option TaskEnd) → end_at after ≡ o → is_going new.end ≡ true → AfterStep base u x task after went o found new → AreMarked new
+  step-marked found new None unended on_going gives = comes found new went refl unended gives
+  step-marked found new (Some ended) is_ended on_going gives = roots old marked u x tree after unit_there there (has-tasks (no-fork ended is_ended)) base is-base ended found new on_going gives
+
+  -- The mark of the task stays for want of memory, where it waits for a finish or for a ref.
+  module _ (new : Shared) (held : is_held_back went ≡ true) (stays : piece_at new.board task ≡ Some (piece.Task m)) (others : (q : Name) → (q ≡ task → ⊥) → piece_at new.board q ≡ piece_at old.board q) (rest : new ≡ record base { board = new.board }) where
+    own : IsTaskPiece old task m
+    own = marked.tasks task m at_task
+
+    mine : own.owner ≡ u
+    mine = let both : Some own.owner ≡ Some u = sym own.of ∙ of in cc
+
+    own-tree : own.tree ≡ tree
+    own-tree = let both : Some own.tree ≡ Some tree = sym own.attempt ∙ ap (λ q. named q old.attempts) mine ∙ there in cc
+
+    own-task : own.task ≡ in_tree.0
+    own-task = let both : Some own.task ≡ Some in_tree.0 = sym own.among ∙ ap (λ (a : Attempt). named task a.tasks) own-tree ∙ in_tree.1 in cc
+
+    says-so : TaskSays old.board tree.tasks in_tree.0 m
+    says-so = subst (λ (k : Task). TaskSays old.board tree.tasks k m) own-task (subst (λ (a : Attempt). TaskSays old.board a.tasks own.task m) own-tree (own.says (ap end_at own-tree ∙ before)))
+
+    goes : IsGoing shape.after.stage
+    goes = by went refl held
+      where
+        by : (k : Stepped) → went ≡ k → is_held_back k ≡ true → IsGoing shape.after.stage
+        by (stepped.WaitJoin f) so e = (is-after (stepped.WaitJoin f) so).0
+        by (stepped.NotInSnapshot ref) so e = is-after (stepped.NotInSnapshot ref) so
+        by stepped.Now so e = cc
+        by (stepped.Forked child) so e = cc
+        by stepped.Finished so e = cc
+
+    no-forks : (n : Name) → forks_it went n ≡ false
+    no-forks n = by went held
+      where
+        by : (k : Stepped) → is_held_back k ≡ true → forks_it k n ≡ false
+        by (stepped.WaitJoin f) e = refl
+        by (stepped.NotInSnapshot ref) e = refl
+        by stepped.Now e = cc
+        by (stepped.Forked child) e = cc
+        by stepped.Finished e = cc
+
+    no-end : says_ended went ≡ false
+    no-end = by went held
+      where
+        by : (k : Stepped) → is_held_back k ≡ true → says_ended k ≡ false
+        by (stepped.WaitJoin f) e = refl
+        by (stepped.NotInSnapshot ref) e = refl
+        by stepped.Now e = cc
+        by (stepped.Forked child) e = cc
+        by stepped.Finished e = cc
+
+    finished-same : (f : Name) → finished_at old.board f ≡ None → finished_at new.board f ≡ None
+    finished-same f none = on (same_name f task) refl
+      where
+        on : (c : Bool) → same_name f task ≡ c → finished_at new.board f ≡ None
+        on true e = ap (finished_at new.board) (same_name-equal f task e) ∙ finished-none new.board m stays
+        on false e = ap (λ p. option_and_then (λ (k : UnitState). k.finished) (option_map unit_state (option_and_then unit_in p))) (others f (apart-of f task e)) ∙ none
+
+    -- what it waited for is still to come
+    comes-still : (f : Name) → IsToCome old.board tree.tasks in_tree.0 f → IsToCome new.board after.tasks shape.after f
+    comes-still f come = on (same_name f task) refl come
+      where
+        same-others : (f ≡ task → ⊥) → named f after.tasks ≡ named f tree.tasks
+        same-others other = shape.others f other (forked-not went f (no-forks f))
+
+        on : (c : Bool) → same_name f task ≡ c → IsToCome old.board tree.tasks in_tree.0 f → IsToCome new.board after.tasks shape.after f
+        on true e come = marks.task shape.after (ap (λ q. named q after.tasks) (same_name-equal f task e) ∙ shape.here) goes
+        on false e (marks.task child at_child going_child) = marks.task child (same-others (apart-of f task e) ∙ at_child) going_child
+        on false e (marks.unit unknown none) = marks.unit
+            (ap (λ k. if has_name k f then named f after.tasks else None) (shape.knows held in_tree.0 in_tree.1) ∙ ap (λ o. if has_name in_tree.0.knows f then o else None) (same-others (apart-of f task e)) ∙ unknown)
+            (finished-same f none)
+
+    keeps : (q : Mark) → m ≡ q → says_finished q ≡ false → ((p : Option Piece) → Rattle.unit_table.specs.Piece.beside task q p ≡ p) → (end_at after ≡ None → TaskSays new.board after.tasks shape.after q) → AreMarked new
+    keeps q is_m unfinished plain says = marks-task new q went refl no-forks (λ o e. let no : true ≡ false = sym e ∙ no-end in cc)
+        (record { set = record { here = stays ∙ ap (λ k. Some (piece.Task k)) is_m; others = λ n other. others n other ∙ sym (plain (piece_at old.board n)) }; others = rest })
+        (λ e. let no : true ≡ false = sym e ∙ unfinished in cc) says
+
+    pub left-waiting : AreMarked new
+    left-waiting = by m refl says-so
+      where
+        by : (q : Mark) → m ≡ q → TaskSays old.board tree.tasks in_tree.0 q → AreMarked new
+        by (mark.Ready work.Eval) e says = keeps (mark.Ready work.Eval) e refl (λ p. refl) (λ o. goes)
+        by (mark.Ready work.Settle) e says = keeps (mark.Ready work.Settle) e refl (λ p. refl) (λ o. tt)
+        by (mark.Ready work.Begin) e says = absurd says
+        by (mark.Waiting (wait.Finish f)) e says = keeps (mark.Waiting (wait.Finish f)) e refl (λ p. refl) (λ o. record { going = goes; to_come = comes-still f says.to_come })
+        by (mark.Waiting (wait.Definite t)) e says = absurd says
+        by mark.Resting e says = absurd says
+        by (mark.Finished v) e says =
+            let it = goes-with tree task machine is in
+            let both : Some in_tree.0 ≡ Some it.task = sym in_tree.1 ∙ it.there in
+            let same : in_tree.0 ≡ it.task = cc in
+            absurd (says (going-open in_tree.0.stage (subst (λ s. IsGoing s) (sym (ap (λ (k : Task). k.stage) same ∙ it.stage)) tt)))
+        by mark.Dropped e says = absurd says
+
+  -- It is ready to settle for want of memory, where the root is at its end.
+  pub left-ended : (new : Shared) (ended : TaskEnd) → end_at after ≡ Some ended → IsMarkedTask base task (mark.Ready work.Settle) new → AreMarked new
+  left-ended new ended is_ended marked_so = marks-task new (mark.Ready work.Settle) went refl (no-fork ended is_ended) (λ unended e. let no : None ≡ Some ended = sym unended ∙ is_ended in cc) marked_so (λ e. cc) (λ o. tt)
+
+-- A task of an attempt whose root is at its end is ready to settle.
+pub left-settling : (old : Shared) → AreMarked old → (task : Name) (m : Mark) → piece_at old.board task ≡ Some (piece.Task m) → (new : Shared) → IsMarkedTask old task (mark.Ready work.Settle) new → AreMarked new
+left-settling old marked task m at_task new is = marked-set old new task (piece.Task (mark.Ready work.Settle)) (mark.Ready work.Settle) (record {
+  set = is.set;
+  setup = ap (λ (s : Shared). s.setup) is.others;
+  attempts = ap (λ (s : Shared). s.attempts) is.others;
+  owners = ap (λ (s : Shared). s.owners) is.others;
+  mails = λ a. ap (λ (s : Shared). mail_at s.mails a) is.others;
+  unfinished = λ e. ap (λ p. option_and_then (λ (k : UnitState). k.finished) (option_map unit_state (option_and_then unit_in p))) is.set.here;
+  no_root = λ e. cc;
+  stays = λ k e. refl;
+  unit = λ y e. cc;
+  task = λ k e. let same : mark.Ready work.Settle ≡ k = cc in record {
+    owner = own.owner;
+    of = ap (λ (s : Shared). named task s.owners) is.others ∙ own.of;
+    tree = own.tree;
+    attempt = ap (λ (s : Shared). named own.owner s.attempts) is.others ∙ own.attempt;
+    task = own.task;
+    among = own.among;
+    says = λ unended. subst (λ q. TaskSays new.board own.tree.tasks own.task q) same tt;
+  };
+  actor = λ a e. cc;
+}) (but-one old task false marked)
+  where
+    own : IsTaskPiece old task m
+    own = marked.tasks task m at_task
+
+-- whatever a task comes to
+pub marked-task : (old : Shared) → Stands old → AreMarked old → old.end ≡ None → (name : Name) (found : Given) (new : Shared) → is_going new.end ≡ true → GaveTask old name found new → AreMarked new
+marked-task old st marked unended name found new on_going g = on (end_at g.tree) (machine_of g.tree name) refl refl g.gives
+  where
+    going : is_going old.end ≡ true
+    going = ap is_going unended
+
+    on : (ended : Option TaskEnd) (machine : Option Evaluation) → end_at g.tree ≡ ended → machine_of g.tree name ≡ machine → TaskGives old g.owner g.unit name g.tree ended machine found new → AreMarked new
+    on None (Some machine) before is r = step-marked old st marked going g.owner name g.unit g.tree g.mark g.there g.of g.unit_there g.attempt before machine r.moved is r.after r.went r.step found new (end_at r.after) refl on_going r.comes
+    on None None before is r = absurd r
+    on (Some ended) machine before is r = roots old marked g.owner g.unit g.tree g.tree g.unit_there g.attempt (same-tasks old g.owner g.tree) old (kept-base old g.owner g.tree g.attempt) ended found new on_going r

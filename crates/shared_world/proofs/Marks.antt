@@ -1,0 +1,349 @@
+-- How the marks stay right.
+use Rattle.std.proofs.Common.{◌≡◌, ◌∙◌, ◌⊎◌, Bool, true, false, cond, inl, inr, refl, sym, ap, subst}
+use Rattle.std.specs.Option.{option_and_then, option_map}
+use Rattle.std.specs.Prelude.{List, [], ◌∷◌, Option, None, Some, if◌then◌else◌}
+use Rattle.actor_mailbox.specs.declared.message.Message.{Message}
+use Rattle.actor_mails.specs.Mails.{Mail, SameMail, mail_at}
+use Rattle.serial_model.specs.declared.halt.Halt.TheVariants as halt
+use Rattle.serial_model.specs.declared.request.Request.TheVariants as request
+use Rattle.serial_model.specs.State.{Setup, UnitState}
+use Rattle.serial_model.specs.Step.{next_of}
+use Rattle.shared_world.proofs.Besides.{IsWas, WasTask, WasUnit, apart-of, was-actor, was-task, was-unit, task-beside}
+use Rattle.shared_world.proofs.States.{beside-same}
+use Rattle.shared_world.specs.Marks as marks
+use Rattle.shared_world.specs.Marks.{AreMarked, HasMarks, HasPiece, IsTaskPiece, IsToCome, TaskSays, UnitSays, UnitWaits}
+use Rattle.shared_world.specs.rows.Actors.{actor_mark}
+use Rattle.shared_world.specs.rows.Pieces.{IsSet}
+use Rattle.shared_world.specs.Shared.{Shared, finished_at, is_going, unit_state}
+use Rattle.task_fork_join.specs.Attempt.{Attempt, end_at}
+use Rattle.task_fork_join.specs.declared.task.Task.{Task}
+use Rattle.unit_table.specs.Board.{Board, SamePieces, piece_at, unit_at}
+use Rattle.unit_table.specs.declared.mark.Mark.{Mark}
+use Rattle.unit_table.specs.declared.mark.Mark.TheVariants as mark
+use Rattle.unit_table.specs.declared.mark.WaitOn.TheVariants as wait
+use Rattle.unit_table.specs.declared.mark.Work.TheVariants as work
+use Rattle.unit_table.specs.declared.piece.Actor.{Actor}
+use Rattle.unit_table.specs.declared.piece.Piece.{Piece}
+use Rattle.unit_table.specs.declared.piece.Piece.TheVariants as piece
+use Rattle.unit_table.specs.declared.unit.Unit.{Unit as Doing}
+use Rattle.unit_table.specs.Piece.{awaited, beside, is_for, mark_in, says_finished, unit_in}
+use Rattle.value_core.proofs.NamedLaws.{same_name-equal}
+use Rattle.value_core.specs.declared.value.Value.{Value}
+use Rattle.value_core.specs.Named.{Name, Named, named, same_name}
+
+-- the attempts of a unit have the same root, or it has none
+abbrev pub SameRoot : Option Attempt → Option Attempt → Type 0
+SameRoot None None = Unit {0}
+SameRoot (Some tree) (Some after) = after.root ≡ tree.root
+SameRoot _ _ = ⊥
+
+pub same-root : (o : Option Attempt) → SameRoot o o
+same-root None = tt
+same-root (Some tree) = refl
+
+none-root : (o p : Option Attempt) → SameRoot o p → o ≡ None → p ≡ None
+none-root o None is e = refl
+none-root None (Some tree) is e = absurd is
+none-root (Some tree) (Some after) is e = cc
+
+-- what a unit waits for is still to come
+pub unit-waits : (old new : Shared) (u : Name) (x : Doing) (f : Name) → new.setup ≡ old.setup → SameRoot (named u old.attempts) (named u new.attempts) → (finished_at old.board f ≡ None → finished_at new.board f ≡ None)
+    → UnitWaits old u x f → UnitWaits new u x f
+unit-waits old new u x f setup same over (marks.root tree there is) = on (named u new.attempts) refl (subst (λ o. SameRoot o (named u new.attempts)) there same)
+  where
+    on : (o : Option Attempt) → named u new.attempts ≡ o → SameRoot (Some tree) o → UnitWaits new u x f
+    on None e s = absurd s
+    on (Some after) e s = marks.root after e (s ∙ is)
+unit-waits old new u x f setup same over (marks.join none at asks unfinished) =
+    marks.join (none-root (named u old.attempts) (named u new.attempts) same none) at (subst (λ (s : Setup). next_of s (unit_state x) ≡ halt.Ask (request.Join f) at) (sym setup) asks) (over unfinished)
+
+-- the mark of a unit that stays says the same
+pub unit-again : (old new : Shared) (u : Name) (x : Doing) (m : Mark) → new.setup ≡ old.setup → SameRoot (named u old.attempts) (named u new.attempts)
+    → ((f : Name) → m ≡ mark.Waiting (wait.Finish f) → finished_at old.board f ≡ None → finished_at new.board f ≡ None) → UnitSays old u x m → UnitSays new u x m
+unit-again old new u x (mark.Ready work.Eval) setup same over is = none-root (named u old.attempts) (named u new.attempts) same is
+unit-again old new u x (mark.Ready work.Settle) setup same over is = none-root (named u old.attempts) (named u new.attempts) same is
+unit-again old new u x (mark.Ready work.Begin) setup same over is = absurd is
+unit-again old new u x (mark.Waiting (wait.Finish f)) setup same over is = unit-waits old new u x f setup same (over f refl) is
+unit-again old new u x (mark.Waiting (wait.Definite t)) setup same over is = absurd is
+unit-again old new u x mark.Resting setup same over is = absurd is
+unit-again old new u x (mark.Finished v) setup same over is = none-root (named u old.attempts) (named u new.attempts) same is
+unit-again old new u x mark.Dropped setup same over is = absurd is
+
+-- it says the same of a unit that stands where that one stands
+pub unit-like : (s : Shared) (u : Name) (x y : Doing) (m : Mark) → unit_state y ≡ unit_state x → UnitSays s u x m → UnitSays s u y m
+unit-like s u x y (mark.Ready work.Eval) same is = is
+unit-like s u x y (mark.Ready work.Settle) same is = is
+unit-like s u x y (mark.Ready work.Begin) same is = absurd is
+unit-like s u x y (mark.Waiting (wait.Finish f)) same (marks.root tree there is) = marks.root tree there is
+unit-like s u x y (mark.Waiting (wait.Finish f)) same (marks.join none at asks unfinished) = marks.join none at (ap (next_of s.setup) same ∙ asks) unfinished
+unit-like s u x y (mark.Waiting (wait.Definite t)) same is = absurd is
+unit-like s u x y mark.Resting same is = absurd is
+unit-like s u x y (mark.Finished v) same is = is
+unit-like s u x y mark.Dropped same is = absurd is
+
+-- the mark of a task that stays says the same
+pub task-again : (b c : Board) (tasks after : Named Task) (t : Task) (m : Mark) → ((f : Name) → m ≡ mark.Waiting (wait.Finish f) → IsToCome b tasks t f → IsToCome c after t f) → TaskSays b tasks t m → TaskSays c after t m
+task-again b c tasks after t (mark.Ready work.Eval) still is = is
+task-again b c tasks after t (mark.Ready work.Settle) still is = tt
+task-again b c tasks after t (mark.Ready work.Begin) still is = absurd is
+task-again b c tasks after t (mark.Waiting (wait.Finish f)) still is = record { going = is.going; to_come = still f refl is.to_come }
+task-again b c tasks after t (mark.Waiting (wait.Definite u)) still is = absurd is
+task-again b c tasks after t mark.Resting still is = absurd is
+task-again b c tasks after t (mark.Finished v) still is = is
+task-again b c tasks after t mark.Dropped still is = absurd is
+
+-- and so does what it waits for, where the tasks of its attempt stay
+pub come-again : (b c : Board) (tasks : Named Task) (t : Task) (f : Name) → (finished_at b f ≡ None → finished_at c f ≡ None) → IsToCome b tasks t f → IsToCome c tasks t f
+come-again b c tasks t f over (marks.task child there going) = marks.task child there going
+come-again b c tasks t f over (marks.unit unknown none) = marks.unit unknown (over none)
+
+-- the piece of a task, of which the mark is right unless it waits for what ends
+pub record IsTaskPieceBut (name : Name) (ends : Bool) (s : Shared) (n : Name) (m : Mark) : Type 0 where
+  pub owner : Name
+  pub of : named n s.owners ≡ Some owner
+  pub tree : Attempt
+  pub attempt : named owner s.attempts ≡ Some tree
+  pub task : Task
+  pub among : named n tree.tasks ≡ Some task
+  pub says : end_at tree ≡ None → (ends ≡ true → m ≡ mark.Waiting (wait.Finish name) → ⊥) → TaskSays s.board tree.tasks task m
+
+-- the mark of each actor is right
+abbrev pub ActorsAreMarked : Board → Mail → Type 0
+ActorsAreMarked b mails = (a : Name) (x : Actor) → piece_at b a ≡ Some (piece.Actor x) → x.mark ≡ actor_mark x.state.busy (mail_at mails a)
+
+-- an actor whose mark is right waits for no finish
+pub actor-awaits : (name : Name) (busy : Bool) (mail : List Message) → is_for name (awaited (actor_mark busy mail)) ≡ false
+actor-awaits name true mail = refl
+actor-awaits name false [] = refl
+actor-awaits name false (m ∷ ms) = refl
+
+-- All marks are right but that of what stands under the name and, where it ends, those of the tasks that wait for it; and each
+-- task of an attempt is a piece.
+pub record AreMarkedBut (name : Name) (ends : Bool) (s : Shared) : Type 0 where
+  pub units : (u : Name) (x : Doing) → (u ≡ name → ⊥) → unit_at s.board u ≡ Some x → UnitSays s u x x.mark
+  pub tasks : (n : Name) (m : Mark) → (n ≡ name → ⊥) → piece_at s.board n ≡ Some (piece.Task m) → IsTaskPieceBut name ends s n m
+  pub actors : ActorsAreMarked s.board s.mails
+  pub pieces : (u : Name) (tree : Attempt) → named u s.attempts ≡ Some tree → (n : Name) (t : Task) → named n tree.tasks ≡ Some t → HasPiece s u n
+
+-- where the same attempts, pieces and mail are there
+pub record IsSameMarked (old new : Shared) : Type 0 where
+  pub setup : new.setup ≡ old.setup
+  pub attempts : (v : Name) → named v new.attempts ≡ named v old.attempts
+  pub owners : new.owners ≡ old.owners
+  pub pieces : SamePieces old.board new.board
+  pub mails : SameMail old.mails new.mails
+
+-- what stands there, where it is no actor
+abbrev pub but_actor : Option Piece → Option Piece
+but_actor (Some (piece.Actor a)) = None
+but_actor found = found
+
+-- where the same attempts, units and tasks are there, and the marks of the actors are right
+pub record IsSameButActors (old new : Shared) : Type 0 where
+  pub setup : new.setup ≡ old.setup
+  pub attempts : (v : Name) → named v new.attempts ≡ named v old.attempts
+  pub owners : new.owners ≡ old.owners
+  pub pieces : (n : Name) → but_actor (piece_at new.board n) ≡ but_actor (piece_at old.board n)
+  pub actors : ActorsAreMarked new.board new.mails
+
+-- so the same units and tasks are there
+unit-but : (found : Option Piece) → option_and_then unit_in (but_actor found) ≡ option_and_then unit_in found
+unit-but None = refl
+unit-but (Some (piece.Unit x)) = refl
+unit-but (Some (piece.Task m)) = refl
+unit-but (Some (piece.Actor a)) = refl
+
+task-but : (found : Option Piece) (m : Mark) → but_actor found ≡ Some (piece.Task m) → found ≡ Some (piece.Task m)
+task-but None m e = e
+task-but (Some (piece.Unit x)) m e = e
+task-but (Some (piece.Task k)) m e = e
+task-but (Some (piece.Actor a)) m e = cc
+
+pub same-unit : (old new : Shared) → IsSameButActors old new → (u : Name) → unit_at new.board u ≡ unit_at old.board u
+same-unit old new same u = sym (unit-but (piece_at new.board u)) ∙ ap (option_and_then unit_in) (same.pieces u) ∙ unit-but (piece_at old.board u)
+
+pub same-task : (old new : Shared) → IsSameButActors old new → (n : Name) (m : Mark) → piece_at new.board n ≡ Some (piece.Task m) → piece_at old.board n ≡ Some (piece.Task m)
+same-task old new same n m there = task-but (piece_at old.board n) m (sym (same.pieces n) ∙ ap but_actor there)
+
+task-still : (old new : Shared) → IsSameButActors old new → (n : Name) (m : Mark) → piece_at old.board n ≡ Some (piece.Task m) → piece_at new.board n ≡ Some (piece.Task m)
+task-still old new same n m there = task-but (piece_at new.board n) m (same.pieces n ∙ ap but_actor there)
+
+same-finished : (old new : Shared) → IsSameButActors old new → (f : Name) → finished_at new.board f ≡ finished_at old.board f
+same-finished old new same f = ap (λ o. option_and_then (λ (k : UnitState). k.finished) (option_map unit_state o)) (same-unit old new same f)
+
+task-piece-same : (old new : Shared) (n : Name) (m : Mark) → IsSameButActors old new → IsTaskPiece old n m → IsTaskPiece new n m
+task-piece-same old new n m same is = record {
+  owner = is.owner;
+  of = ap (named n) same.owners ∙ is.of;
+  tree = is.tree;
+  attempt = same.attempts is.owner ∙ is.attempt;
+  task = is.task;
+  among = is.among;
+  says = λ unended. task-again old.board new.board is.tree.tasks is.tree.tasks is.task m (λ f e. come-again old.board new.board is.tree.tasks is.task f (λ none. same-finished old new same f ∙ none)) (is.says unended);
+}
+
+unit-same : (old new : Shared) (u : Name) (x : Doing) → IsSameButActors old new → UnitSays old u x x.mark → UnitSays new u x x.mark
+unit-same old new u x same is = unit-again old new u x x.mark same.setup (subst (λ o. SameRoot (named u old.attempts) o) (sym (same.attempts u)) (same-root (named u old.attempts)))
+    (λ f e none. same-finished old new same f ∙ none) is
+
+has-same : (old new : Shared) (u n : Name) → IsSameButActors old new → HasPiece old u n → HasPiece new u n
+has-same old new u n same is = record { mark = is.mark; there = task-still old new same n is.mark is.there; of = ap (named n) same.owners ∙ is.of }
+
+pub marked-actors : (old new : Shared) → IsSameButActors old new → AreMarked old → AreMarked new
+marked-actors old new same all = record {
+  units = λ u x there. unit-same old new u x same (all.units u x (sym (same-unit old new same u) ∙ there));
+  tasks = λ n m there. task-piece-same old new n m same (all.tasks n m (same-task old new same n m there));
+  actors = same.actors;
+  pieces = λ u tree there n t among. has-same old new u n same (all.pieces u tree (sym (same.attempts u) ∙ there) n t among);
+}
+
+pub same-but : (old new : Shared) → IsSameMarked old new → AreMarked old → IsSameButActors old new
+same-but old new same all = record {
+  setup = same.setup;
+  attempts = same.attempts;
+  owners = same.owners;
+  pieces = λ n. ap but_actor (same.pieces n);
+  actors = λ a x there. all.actors a x (sym (same.pieces a) ∙ there) ∙ ap (actor_mark x.state.busy) (sym (same.mails a));
+}
+
+pub marked-same : (old new : Shared) → IsSameMarked old new → AreMarked old → AreMarked new
+marked-same old new same all = marked-actors old new (same-but old new same all) all
+
+pub but-one : (s : Shared) (name : Name) (ends : Bool) → AreMarked s → AreMarkedBut name ends s
+but-one s name ends all = record {
+  units = λ u x other there. all.units u x there;
+  tasks = λ n m other there. let is = all.tasks n m there in record { owner = is.owner; of = is.of; tree = is.tree; attempt = is.attempt; task = is.task; among = is.among; says = λ unended why. is.says unended };
+  actors = all.actors;
+  pieces = all.pieces;
+}
+
+-- so they are where all else but claims and room stays
+pub pieces-marks : (old new : Shared) → SamePieces old.board new.board → new ≡ record old { board = new.board } → HasMarks old → HasMarks new
+pieces-marks old new same rest marks going = marked-same old new (record {
+  setup = ap (λ (s : Shared). s.setup) rest;
+  attempts = λ v. ap (λ (s : Shared). named v s.attempts) rest;
+  owners = ap (λ (s : Shared). s.owners) rest;
+  pieces = same;
+  mails = λ a. ap (λ (s : Shared). mail_at s.mails a) rest;
+}) (marks (sym (ap (λ (s : Shared). is_going s.end) rest) ∙ going))
+
+-- What is set under a name: its mark is the one that is set, and is right; no unit is finished by another mark; where it is
+-- finished it is the root of no attempt; and a task stays one.
+pub record IsRightSet (s new : Shared) (name : Name) (p : Piece) (m : Mark) : Type 0 where
+  pub set : IsSet name p m s.board new.board
+  pub setup : new.setup ≡ s.setup
+  pub attempts : new.attempts ≡ s.attempts
+  pub owners : new.owners ≡ s.owners
+  pub mails : SameMail s.mails new.mails
+  pub unfinished : says_finished m ≡ false → finished_at new.board name ≡ None
+  pub no_root : says_finished m ≡ true → (v : Name) (tree : Attempt) → named v s.attempts ≡ Some tree → tree.root ≡ name → ⊥
+  pub stays : (k : Mark) → piece_at s.board name ≡ Some (piece.Task k) → p ≡ piece.Task m
+  pub unit : (x : Doing) → p ≡ piece.Unit x → UnitSays new name x x.mark
+  pub task : (k : Mark) → p ≡ piece.Task k → IsTaskPiece new name k
+  pub actor : (x : Actor) → p ≡ piece.Actor x → x.mark ≡ actor_mark x.state.busy (mail_at new.mails name)
+
+module _ (s new : Shared) (name : Name) (p : Piece) (m : Mark) (is : IsRightSet s new name p m) (all : AreMarkedBut name (says_finished m) s) where
+  -- elsewhere the same is finished
+  over : (f : Name) → (f ≡ name → says_finished m ≡ false) → finished_at s.board f ≡ None → finished_at new.board f ≡ None
+  over f why none = on (same_name f name) refl
+    where
+      on : (c : Bool) → same_name f name ≡ c → finished_at new.board f ≡ None
+      on true e = let same : f ≡ name = same_name-equal f name e in ap (finished_at new.board) same ∙ is.unfinished (why same)
+      on false e = ap (option_and_then (λ (k : UnitState). k.finished)) (ap (λ q. option_map unit_state (option_and_then unit_in q)) (is.set.others f (apart-of f name e)) ∙ beside-same name m (piece_at s.board f)) ∙ none
+
+  roots : (u : Name) → SameRoot (named u s.attempts) (named u new.attempts)
+  roots u = subst (λ o. SameRoot (named u s.attempts) o) (sym (ap (named u) is.attempts)) (same-root (named u s.attempts))
+
+  units : (u : Name) (z : Doing) (c : Bool) → same_name u name ≡ c → unit_at new.board u ≡ Some z → UnitSays new u z z.mark
+  units u z true e there =
+      let same : u ≡ name = same_name-equal u name e in
+      subst (λ q. UnitSays new q z z.mark) (sym same) (by p refl (sym (ap (option_and_then unit_in) is.set.here) ∙ ap (unit_at new.board) (sym same) ∙ there))
+    where
+      by : (q : Piece) → p ≡ q → option_and_then unit_in (Some q) ≡ Some z → UnitSays new name z z.mark
+      by (piece.Unit y) so e = let same : y ≡ z = cc in is.unit z (so ∙ ap (λ k. piece.Unit k) same)
+      by (piece.Task k) so e = cc
+      by (piece.Actor a) so e = cc
+  units u z false e there = on was.was
+    where
+      other : u ≡ name → ⊥
+      other = apart-of u name e
+
+      was : WasUnit name m (piece_at s.board u) z
+      was = was-unit name m (piece_at s.board u) z (sym (ap (option_and_then unit_in) (is.set.others u other)) ∙ there)
+
+      before : UnitSays s u was.unit was.unit.mark
+      before = all.units u was.unit other (ap (option_and_then unit_in) was.there)
+
+      on : IsWas name m was.unit.mark z.mark → UnitSays new u z z.mark
+      on (inl w) =
+          let same : z ≡ was.unit = was.same ∙ ap (λ k. record was.unit { mark = k }) w.0 in
+          subst (λ (k : Doing). UnitSays new u k k.mark) (sym same) (unit-again s new u was.unit was.unit.mark is.setup (roots u) (λ f e none. over f (λ here. w.1 (e ∙ ap (λ q. mark.Waiting (wait.Finish q)) here)) none) before)
+      on (inr w) = subst (λ k. UnitSays new u z k) (sym w.1) (ap (named u) is.attempts ∙ none (subst (λ k. UnitSays s u was.unit k) w.0 before))
+        where
+          none : UnitWaits s u was.unit name → named u s.attempts ≡ None
+          none (marks.root tree at root) = absurd (is.no_root w.2 u tree at root)
+          none (marks.join gone at asks unfinished) = gone
+
+  owner-same : (n : Name) → named n new.owners ≡ named n s.owners
+  owner-same n = ap (named n) is.owners
+
+  tasks : (n : Name) (k : Mark) (c : Bool) → same_name n name ≡ c → piece_at new.board n ≡ Some (piece.Task k) → IsTaskPiece new n k
+  tasks n k true e there = let same : n ≡ name = same_name-equal n name e in
+      let both : Some p ≡ Some (piece.Task k) = sym is.set.here ∙ ap (piece_at new.board) (sym same) ∙ there in
+      let so : p ≡ piece.Task k = cc in
+      subst (λ q. IsTaskPiece new q k) (sym same) (is.task k so)
+  tasks n k false e there = record {
+    owner = before.owner;
+    of = owner-same n ∙ before.of;
+    tree = before.tree;
+    attempt = ap (named before.owner) is.attempts ∙ before.attempt;
+    task = before.task;
+    among = before.among;
+    says = λ unended. on unended was.was;
+  }
+    where
+      other : n ≡ name → ⊥
+      other = apart-of n name e
+
+      was : WasTask name m (piece_at s.board n) k
+      was = was-task name m (piece_at s.board n) k (sym (is.set.others n other) ∙ there)
+
+      before : IsTaskPieceBut name (says_finished m) s n was.mark
+      before = all.tasks n was.mark other was.there
+
+      on : end_at before.tree ≡ None → IsWas name m was.mark k → TaskSays new.board before.tree.tasks before.task k
+      on unended (inl w) = subst (λ j. TaskSays new.board before.tree.tasks before.task j) (sym w.0)
+          (task-again s.board new.board before.tree.tasks before.tree.tasks before.task was.mark (λ f e. come-again s.board new.board before.tree.tasks before.task f (over f (λ here. w.1 (e ∙ ap (λ q. mark.Waiting (wait.Finish q)) here))))
+          (before.says unended (λ ends waits. let no : true ≡ false = sym ends ∙ w.1 waits in cc)))
+      on unended (inr w) = subst (λ j. TaskSays new.board before.tree.tasks before.task j) (sym w.1) tt
+
+  actors : (a : Name) (x : Actor) (c : Bool) → same_name a name ≡ c → piece_at new.board a ≡ Some (piece.Actor x) → x.mark ≡ actor_mark x.state.busy (mail_at new.mails a)
+  actors a x true e there =
+      let same : a ≡ name = same_name-equal a name e in
+      let both : Some p ≡ Some (piece.Actor x) = sym is.set.here ∙ ap (piece_at new.board) (sym same) ∙ there in
+      let so : p ≡ piece.Actor x = cc in
+      is.actor x so ∙ ap (λ q. actor_mark x.state.busy (mail_at new.mails q)) (sym same)
+  actors a x false e there = all.actors a x (was-actor name m (piece_at s.board a) x plain (sym (is.set.others a (apart-of a name e)) ∙ there)) ∙ ap (actor_mark x.state.busy) (sym (is.mails a))
+    where
+      plain : (y : Actor) → piece_at s.board a ≡ Some (piece.Actor y) → is_for name (awaited y.mark) ≡ false
+      plain y at = ap (λ k. is_for name (awaited k)) (all.actors a y at) ∙ actor-awaits name y.state.busy (mail_at s.mails a)
+
+  pieces : (u n : Name) (c : Bool) → same_name n name ≡ c → HasPiece s u n → HasPiece new u n
+  pieces u n true e has = let same : n ≡ name = same_name-equal n name e in record {
+    mark = m;
+    there = ap (piece_at new.board) same ∙ is.set.here ∙ ap (λ q. Some q) (is.stays has.mark (ap (piece_at s.board) (sym same) ∙ has.there));
+    of = owner-same n ∙ has.of;
+  }
+  pieces u n false e has = let beside = task-beside name m (piece_at s.board n) has.mark has.there in record {
+    mark = beside.0;
+    there = is.set.others n (apart-of n name e) ∙ beside.1;
+    of = owner-same n ∙ has.of;
+  }
+
+  pub marked-set : AreMarked new
+  marked-set = record {
+    units = λ u z there. units u z (same_name u name) refl there;
+    tasks = λ n k there. tasks n k (same_name n name) refl there;
+    actors = λ a x there. actors a x (same_name a name) refl there;
+    pieces = λ u tree there n t among. pieces u n (same_name n name) refl (all.pieces u tree (sym (ap (named u) is.attempts) ∙ there) n t among);
+  }

@@ -1,0 +1,80 @@
+-- What the marks of pieces say, while the run goes on.
+use Rattle.std.specs.Prelude.{◌≡◌, true, None, Some}
+use Rattle.actor_mails.specs.Mails.{mail_at}
+use Rattle.serial_model.specs.declared.halt.Halt.TheVariants as halt
+use Rattle.serial_model.specs.declared.request.Request.TheVariants as request
+use Rattle.serial_model.specs.Step.{next_of}
+use Rattle.shared_world.specs.rows.Actors.{actor_mark}
+use Rattle.shared_world.specs.Shared.{Shared, finished_at, is_going, unit_state}
+use Rattle.task_fork_join.specs.Attempt.{Attempt, end_at, end_of}
+use Rattle.task_fork_join.specs.declared.task.Task.{Task}
+use Rattle.task_fork_join.specs.Joining.{IsGoing, known_in}
+use Rattle.unit_table.specs.Board.{Board, piece_at, unit_at}
+use Rattle.unit_table.specs.declared.mark.Mark.{Mark}
+use Rattle.unit_table.specs.declared.mark.Mark.TheVariants as mark
+use Rattle.unit_table.specs.declared.mark.WaitOn.TheVariants as wait
+use Rattle.unit_table.specs.declared.mark.Work.TheVariants as work
+use Rattle.unit_table.specs.declared.piece.Actor.{Actor}
+use Rattle.unit_table.specs.declared.piece.Piece.TheVariants as piece
+use Rattle.unit_table.specs.declared.unit.Unit.{Unit as Doing}
+use Rattle.value_core.specs.Named.{Name, Named, named}
+use Rattle.value_core.specs.Place.{Spot}
+
+-- A unit waits for the root of its attempt; where it has none, it asks for the value of a unit that is not finished.
+pub data UnitWaits (s : Shared) (u : Name) (x : Doing) (f : Name) : Type 0 where
+  root : (tree : Attempt) → named u s.attempts ≡ Some tree → tree.root ≡ f → UnitWaits s u x f
+  join : named u s.attempts ≡ None → (at : Spot) → next_of s.setup (unit_state x) ≡ halt.Ask (request.Join f) at → finished_at s.board f ≡ None → UnitWaits s u x f
+
+-- a unit that can do something, or is finished, has no attempt
+abbrev pub UnitSays : Shared → Name → Doing → Mark → Type 0
+UnitSays s u x (mark.Ready work.Eval) = named u s.attempts ≡ None
+UnitSays s u x (mark.Ready work.Settle) = named u s.attempts ≡ None
+UnitSays s u x (mark.Waiting (wait.Finish f)) = UnitWaits s u x f
+UnitSays s u x (mark.Finished v) = named u s.attempts ≡ None
+UnitSays s u x _ = ⊥
+
+-- What a task waits for is still to come: a task of its attempt that goes on; or a unit that is not finished, where the task
+-- knows no task of that name.
+pub data IsToCome (b : Board) (tasks : Named Task) (t : Task) (f : Name) : Type 0 where
+  task : (child : Task) → named f tasks ≡ Some child → IsGoing child.stage → IsToCome b tasks t f
+  unit : known_in tasks t.knows f ≡ None → finished_at b f ≡ None → IsToCome b tasks t f
+
+-- it has not ended, and what it waits for is still to come
+pub record TaskWaits (b : Board) (tasks : Named Task) (t : Task) (f : Name) : Type 0 where
+  pub going : IsGoing t.stage
+  pub to_come : IsToCome b tasks t f
+
+-- a task that can be evaluated goes on, and one that is finished has ended
+abbrev pub TaskSays : Board → Named Task → Task → Mark → Type 0
+TaskSays b tasks t (mark.Ready work.Eval) = IsGoing t.stage
+TaskSays b tasks t (mark.Ready work.Settle) = Unit {0}
+TaskSays b tasks t (mark.Waiting (wait.Finish f)) = TaskWaits b tasks t f
+TaskSays b tasks t (mark.Finished v) = end_of t.stage ≡ None → ⊥
+TaskSays b tasks t _ = ⊥
+
+-- the piece of a task: it is of the attempt of its unit; and while the root of that is not at its end, its mark says where it is
+pub record IsTaskPiece (s : Shared) (n : Name) (m : Mark) : Type 0 where
+  pub owner : Name
+  pub of : named n s.owners ≡ Some owner
+  pub tree : Attempt
+  pub attempt : named owner s.attempts ≡ Some tree
+  pub task : Task
+  pub among : named n tree.tasks ≡ Some task
+  pub says : end_at tree ≡ None → TaskSays s.board tree.tasks task m
+
+-- a task of the attempt of that unit is a piece
+pub record HasPiece (s : Shared) (u n : Name) : Type 0 where
+  pub mark : Mark
+  pub there : piece_at s.board n ≡ Some (piece.Task mark)
+  pub of : named n s.owners ≡ Some u
+
+-- The mark of each unit, of each task and of each actor is right, and each task of an attempt is a piece.
+pub record AreMarked (s : Shared) : Type 0 where
+  pub units : (u : Name) (x : Doing) → unit_at s.board u ≡ Some x → UnitSays s u x x.mark
+  pub tasks : (n : Name) (m : Mark) → piece_at s.board n ≡ Some (piece.Task m) → IsTaskPiece s n m
+  pub actors : (a : Name) (x : Actor) → piece_at s.board a ≡ Some (piece.Actor x) → x.mark ≡ actor_mark x.state.busy (mail_at s.mails a)
+  pub pieces : (u : Name) (tree : Attempt) → named u s.attempts ≡ Some tree → (n : Name) (t : Task) → named n tree.tasks ≡ Some t → HasPiece s u n
+
+-- once the run has ended nothing is said of them
+abbrev pub HasMarks : Shared → Type 0
+HasMarks s = is_going s.end ≡ true → AreMarked s
