@@ -66,7 +66,7 @@ pub(crate) fn drop_attempt(attempts: &mut BTreeMap<Name, Tree>, units: &mut Unit
     }
 }
 
-/// The versions that no live attempt reads are dropped, but for the newest of each ref. There is room for the snapshots.
+/// What the live attempts read stays, and the newest version of each ref; of others few are kept. There is room for the snapshots.
 pub(crate) fn prune(attempts: &BTreeMap<Name, Tree>, store: &mut Store, mut live: Vec<u64>)
     requires empty { live.items ≡ [] }
     requires room { length attempts.now.entries ≤ vec_capacity live }

@@ -60,7 +60,8 @@ pub record AreLive (live : List ℕ) (attempts : Named Attempt) : Type 0 where
   pub each : (u : Name) (tree : Attempt) → named u attempts ≡ Some tree → Contains live tree.snapshot
   pub count : length live ≤ length attempts
 
--- the versions that no live attempt reads are dropped, but for the newest of each ref
+-- what the live attempts read stays, and the newest version of each ref; of a ref at most one version more is kept than there are
+-- attempts
 pub record ArePrunedFor (attempts : Named Attempt) (old new : Named (List Version)) : Type 0 where
   pub live : List ℕ
   pub are_live : AreLive live attempts
