@@ -1,6 +1,6 @@
 #!/usr/bin/env python3
-"""Runs the programs that stand under "Three programs" in docs/LANGUAGE.md, and compares what they print with what
-reference.py prints: first_programs.py PAGE PROGRAM."""
+"""Runs the programs that stand under "Three programs" in docs/LANGUAGE.md by one thread, which is by a schedule without lines, and
+compares what they print with what reference.py prints: first_programs.py PAGE PROGRAM."""
 import os
 import re
 import subprocess
@@ -29,7 +29,7 @@ def main(page, program):
             file.write(source)
             file.flush()
             os.chmod(file.name, 0o644)
-            if written([program, "run", file.name]) != written([sys.executable, f"{tools}/reference.py", file.name]):
+            if written([program, "schedule", file.name, os.devnull]) != written([sys.executable, f"{tools}/reference.py", file.name]):
                 print(source)
                 wrong += 1
     return wrong

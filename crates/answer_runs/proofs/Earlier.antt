@@ -1,25 +1,42 @@
--- Counting back by nothing, in two steps, and at the end of a name.
-use Rattle.std.proofs.Common.{◌≡◌, ◌∙◌, ◌↔◌, ℕ, ◌+◌, ◌-◌, List, [], ◌∷◌, ◌++◌, refl, sym, ap, arith}
+-- Counting back by nothing, in two steps, by strides at once, and at the end of a name.
+use Rattle.std.proofs.Common.{◌≡◌, ◌∙◌, ◌↔◌, ℕ, zero, suc, ◌+◌, ◌-◌, List, [], ◌∷◌, ◌++◌, refl, sym, ap, arith}
+use Rattle.std.specs.Prelude.{ℤ, pos, negsuc, ◌+ℤ◌, ◌-ℤ◌, ◌*ℤ◌, neg_ℤ}
+use Rattle.std.specs.Int.{w64, int_wrap}
+use Rattle.std.specs.Int.RustNames.{FitsSigned}
+use Rattle.std.proofs.Math.IntN.{zero-*ℤ, suc_ℤ-*ℤ}
+use Rattle.std.proofs.Math.Nat.{mul-add}
+use Rattle.std.proofs.lemmas.Int.{ints, int_wrap_fits, int_wrap-add_left, SFits-int_wrap}
 use Rattle.value_core.specs.declared.value.Value.{Value}
 use Rattle.value_core.specs.declared.value.Value.TheVariants as value
 use Rattle.serial_model.specs.declared.answer.Answer.{Answer}
 use Rattle.serial_model.specs.declared.answer.Answer.TheVariants as answer
-use Rattle.answer_runs.specs.Earlier.{earlier_name, earlier_value, earlier}
+use Rattle.answer_runs.specs.Earlier.{moved, earlier_name, earlier_int, earlier_value, earlier}
 
 earlier_name-zero : (name : List ℕ) → earlier_name 0 name ≡ name
 earlier_name-zero [] = refl
 earlier_name-zero (number ∷ []) = ap (λ n. n ∷ []) (let same : number - 0 ≡ number = omega arith in same)
 earlier_name-zero (number ∷ next ∷ rest) = ap (λ l. number ∷ l) (earlier_name-zero (next ∷ rest))
 
-earlier_value-zero : (v : Value) → earlier_value 0 v ≡ v
-earlier_value-zero (value.Ref name) = ap value.Ref (earlier_name-zero name)
-earlier_value-zero (value.Actor name) = ap value.Actor (earlier_name-zero name)
-earlier_value-zero (value.Future name) = ap value.Future (earlier_name-zero name)
-earlier_value-zero other = refl
+moved-zero : (stride : ℤ) → moved stride 0 ≡ 0
+moved-zero (pos stride) = omega arith
+moved-zero (negsuc n) = refl
 
-pub earlier-zero : (a : Answer) → earlier 0 a ≡ a
-earlier-zero (answer.Value v) = ap answer.Value (earlier_value-zero v)
-earlier-zero (answer.Fault code) = refl
+moved-more : (stride : ℤ) (steps more : ℕ) → moved stride steps + moved stride more ≡ moved stride (steps + more)
+moved-more (pos stride) steps more = sym (mul-add stride steps more)
+moved-more (negsuc n) steps more = refl
+
+moved-none : (stride : ℤ) (name : List ℕ) → earlier_name (moved stride 0) name ≡ name
+moved-none stride name = ap (λ n. earlier_name n name) (moved-zero stride) ∙ earlier_name-zero name
+
+earlier_value-zero : (stride : ℤ) (v : Value) → earlier_value stride 0 v ≡ v
+earlier_value-zero stride (value.Ref name) = ap value.Ref (moved-none stride name)
+earlier_value-zero stride (value.Actor name) = ap value.Actor (moved-none stride name)
+earlier_value-zero stride (value.Future name) = ap value.Future (moved-none stride name)
+earlier_value-zero stride other = refl
+
+pub earlier-zero : (stride : ℤ) (a : Answer) → earlier stride 0 a ≡ a
+earlier-zero stride (answer.Value v) = ap answer.Value (earlier_value-zero stride v)
+earlier-zero stride (answer.Fault code) = refl
 
 earlier_name-twice : (more steps : ℕ) (name : List ℕ) → earlier_name more (earlier_name steps name) ≡ earlier_name (steps + more) name
 earlier_name-twice more steps [] = refl
@@ -27,15 +44,36 @@ earlier_name-twice more steps (number ∷ []) = ap (λ n. n ∷ []) (let same : 
 earlier_name-twice more steps (number ∷ next ∷ []) = ap (λ l. number ∷ l) (earlier_name-twice more steps (next ∷ []))
 earlier_name-twice more steps (number ∷ next ∷ third ∷ rest) = ap (λ l. number ∷ l) (earlier_name-twice more steps (next ∷ third ∷ rest))
 
-earlier_value-twice : (more steps : ℕ) (v : Value) → earlier_value more (earlier_value steps v) ≡ earlier_value (steps + more) v
-earlier_value-twice more steps (value.Ref name) = ap value.Ref (earlier_name-twice more steps name)
-earlier_value-twice more steps (value.Actor name) = ap value.Actor (earlier_name-twice more steps name)
-earlier_value-twice more steps (value.Future name) = ap value.Future (earlier_name-twice more steps name)
-earlier_value-twice more steps other = refl
+moved-twice : (stride : ℤ) (more steps : ℕ) (name : List ℕ) → earlier_name (moved stride more) (earlier_name (moved stride steps) name) ≡ earlier_name (moved stride (steps + more)) name
+moved-twice stride more steps name =
+    earlier_name-twice (moved stride more) (moved stride steps) name ∙ ap (λ n. earlier_name n name) (moved-more stride steps more)
 
-pub earlier-twice : (more steps : ℕ) (a : Answer) → earlier more (earlier steps a) ≡ earlier (steps + more) a
-earlier-twice more steps (answer.Value v) = ap answer.Value (earlier_value-twice more steps v)
-earlier-twice more steps (answer.Fault code) = refl
+earlier_int-twice : (stride : ℤ) (more steps : ℕ) (number : ℤ) → earlier_int stride more (earlier_int stride steps number) ≡ earlier_int stride (steps + more) number
+earlier_int-twice stride more zero number = ap (λ n. earlier_int stride n number) (let same : more ≡ zero + more = omega arith in same)
+earlier_int-twice stride more (suc steps) number =
+    earlier_int-twice stride more steps (int_wrap w64 (number -ℤ stride)) ∙ ap (λ n. earlier_int stride n number) (let next : suc (steps + more) ≡ suc steps + more = omega arith in next)
+
+earlier_value-twice : (stride : ℤ) (more steps : ℕ) (v : Value) → earlier_value stride more (earlier_value stride steps v) ≡ earlier_value stride (steps + more) v
+earlier_value-twice stride more steps (value.Int number) = ap value.Int (earlier_int-twice stride more steps number)
+earlier_value-twice stride more steps (value.Ref name) = ap value.Ref (moved-twice stride more steps name)
+earlier_value-twice stride more steps (value.Actor name) = ap value.Actor (moved-twice stride more steps name)
+earlier_value-twice stride more steps (value.Future name) = ap value.Future (moved-twice stride more steps name)
+earlier_value-twice stride more steps other = refl
+
+pub earlier-twice : (stride : ℤ) (more steps : ℕ) (a : Answer) → earlier stride more (earlier stride steps a) ≡ earlier stride (steps + more) a
+earlier-twice stride more steps (answer.Value v) = ap answer.Value (earlier_value-twice stride more steps v)
+earlier-twice stride more steps (answer.Fault code) = refl
+
+-- so many strides at once, where the number is one of 64 bits
+pub earlier_int-is : (stride : ℤ) (steps : ℕ) (number : ℤ) → FitsSigned w64 number → earlier_int stride steps number ≡ int_wrap w64 (number -ℤ pos steps *ℤ stride)
+earlier_int-is stride zero number fits =
+    sym (ap (λ d. int_wrap w64 (number -ℤ d)) (zero-*ℤ stride) ∙ ap (int_wrap w64) (let same : number -ℤ pos 0 ≡ number = omega (arith, ints) in same) ∙ int_wrap_fits w64 number fits)
+earlier_int-is stride (suc steps) number fits =
+    let rest = pos steps *ℤ stride in
+    earlier_int-is stride steps (int_wrap w64 (number -ℤ stride)) (SFits-int_wrap w64 (number -ℤ stride))
+    ∙ int_wrap-add_left w64 (number -ℤ stride) (neg_ℤ rest)
+    ∙ ap (int_wrap w64) ((let same : number -ℤ stride -ℤ rest ≡ number -ℤ (rest +ℤ stride) = omega (arith, ints) in same)
+    ∙ ap (λ d. number -ℤ d) (sym (suc_ℤ-*ℤ (pos steps) stride)))
 
 -- the last number alone is counted back
 pub earlier_name-end : (steps : ℕ) (maker : List ℕ) (number : ℕ) → earlier_name steps (maker ++ number ∷ []) ≡ maker ++ (number - steps) ∷ []

@@ -1,3 +1,4 @@
+pub mod Dealt
 pub mod Earlier
 pub mod Rest
 pub mod Runs

@@ -1,36 +1,47 @@
-ghost use Rattle.std.specs.Prelude.{◌≡◌, ◌↔◌, [], ◌∷◌, ◌++◌, drop, IsTrue, IfOk, OnOk, OnErr, MatchResult};
-ghost use Rattle.answer_runs.specs.Rest.{rest_back};
-ghost use Rattle.answer_runs.specs.Runs.{run_back, runs_back};
+ghost use Rattle.std.specs.Prelude.{◌≡◌, ◌↔◌, ◌+◌, [], ◌∷◌, ◌++◌, IsTrue, IfOk, OnOk, OnErr};
 
-use crate::rest::Rest;
-use crate::run::Run;
+use crate::lane::Lane;
+use crate::lanes::{are_same_lanes, copies, deal};
 use serial_model::Answer;
-use shared_chain::Chain;
 use std::alloc::{AllocError, Global};
 use std::marker::Model;
 
-/// Answers in their order. Contracts see the list. Copies share what they hold.
+/// How many answers are not dealt out, so that what was given few of them stays small.
+const FIRST: u64 = 24;
+
+/// Answers in their order: the first ones, and those behind them, which are dealt out to lanes. Contracts see the list.
+/// Copies share what they hold.
 pub struct Answers {
-    runs: Chain<Run>,
+    alloc: Global,
+    count: u64,
+    first: Lane,
+    lanes: Vec<Lane>,
 }
 
 impl Model for Answers {
-    ghost use Rattle.std.specs.Prelude.{List, reverse};
+    ghost use Rattle.std.specs.Prelude.{◌-◌, List, ◌++◌, reverse};
     ghost use Rattle.std.specs.Coded.{coded_list};
     ghost use Rattle.serial_model.specs.contracts.answer.Answer as answer;
     ghost use Rattle.serial_model.specs.declared.answer.Answer.{Answer as Given};
-    ghost use Rattle.answer_runs.specs.Runs.{runs_back};
+    ghost use Rattle.answer_runs.specs.Dealt.{woven, AreKept};
 
     ghost Value = { List Given };
 
     ghost coded = { coded_list (answer.the_row).coded };
 
-    ghost view = { λ a. reverse (runs_back a.runs) };
+    ghost view = { λ a. reverse (woven (a.count - 24) a.lanes.items ++ a.first) };
+
+    ghost invariant = { λ a. AreKept a.count a.first a.lanes.items };
 }
 
 impl Drop for Answers {
     fn drop(self) {
-        let Answers { runs: _runs } = self;
+        let Answers {
+            alloc: _alloc,
+            count: _,
+            first: _first,
+            lanes: _lanes,
+        } = self;
     }
 }
 
@@ -40,16 +51,22 @@ impl Answers {
         ensures { result ≡ [] }
     {
         Answers {
-            runs: Chain::new(alloc),
+            alloc,
+            count: 0,
+            first: Lane::new(alloc),
+            lanes: Vec::new(alloc),
         }
     }
 
-    /// Equal answers, which are shared. It takes no memory, and fails only where there are too many copies to count.
+    /// Equal answers, which are shared.
     pub fn copy(&self) -> Result<Self, AllocError>
         ensures { IfOk result (λ copied. copied ≡ self.now) }
     {
         Ok(Answers {
-            runs: self.runs.copy()?,
+            alloc: self.alloc,
+            count: self.count,
+            first: self.first.copy()?,
+            lanes: copies(self.alloc, &self.lanes)?,
         })
     }
 
@@ -58,51 +75,31 @@ impl Answers {
         ensures ok { OnOk result (self.new ≡ self.old ++ answer ∷ []) }
         ensures err { OnErr result (self.new ≡ self.old) }
     {
-        match with_answer(&self.runs, answer) {
-            Ok(run) => self.runs.set_first(run).map_err(|_| AllocError),
-            Err(answer) => self.runs.push(Run::of(answer)).map_err(|_| AllocError),
+        let count = counted(self.count)?;
+        if self.count < FIRST {
+            self.first.add(answer)?;
+            self.count = count;
+            return Ok(());
         }
+        deal(self.alloc, &mut self.lanes, answer)?;
+        self.count = count;
+        Ok(())
     }
 
     /// Whether the two hold the same answers. It takes no memory, and takes no longer than there are runs.
     pub fn same(&self, other: &Answers) -> bool
         ensures { IsTrue result ↔ (self.now ≡ other.now) }
     {
-        are_same_rests(Rest::from(self.runs.top()), Rest::from(other.runs.top()))
+        if self.count != other.count {
+            return false;
+        }
+        self.first.same(&other.first) && are_same_lanes(&self.lanes, &other.lanes)
     }
 }
 
-// The last of the runs with the answer behind it, where the two are one run. Else it hands the answer back.
-fn with_answer(runs: &Chain<Run>, answer: Answer) -> Result<Run, Answer>
-    ensures { MatchResult result
-        (λ run. run_back run.counts_on run.last run.before ++ runs_back (drop 1 runs.now) ≡ answer ∷ runs_back runs.now)
-        (λ back. back ≡ answer) }
+// One more than so many.
+fn counted(count: u64) -> Result<u64, AllocError>
+    ensures { IfOk result (λ more. more ≡ count + 1) }
 {
-    match runs.top() {
-        Some(link) => {
-            let (run, _) = link.parts();
-            run.with(answer)
-        }
-        None => Err(answer),
-    }
-}
-
-// Whether the same answers are left.
-fn are_same_rests(left: Option<Rest<'_>>, right: Option<Rest<'_>>) -> bool
-    ensures { IsTrue result ↔ (rest_back left.entry ≡ rest_back right.entry) }
-{
-    let mut left = left;
-    let mut right = right;
-    while let Some(one) = left {
-        let Some(other) = right else {
-            return false;
-        };
-        if !one.is_at_same(&other) {
-            return false;
-        }
-        let more = one.alike(&other);
-        left = one.behind(more);
-        right = other.behind(more);
-    }
-    right.is_none()
+    count.checked_add(1).ok_or(AllocError)
 }

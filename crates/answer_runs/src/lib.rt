@@ -3,6 +3,8 @@
 #![tactic(auto)]
 
 mod answers;
+mod lane;
+mod lanes;
 mod rest;
 mod run;
 mod sameness;

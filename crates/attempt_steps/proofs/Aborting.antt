@@ -5,11 +5,14 @@ use Rattle.std.specs.Prelude.{None, Option, Some, is_some, ◌&&◌, ◌||◌, i
 use Rattle.attempt_steps.specs.Undoing.{TasksGone}
 use Rattle.attempt_steps.specs.Undoing.{HasAborted, HasAttempt, IsUndone}
 use Rattle.shared_world.proofs.Gone.{SeenAs, seen-as}
+use Rattle.shared_world.proofs.Leading.{now-kept}
 use Rattle.shared_world.proofs.Live.{state-there, unit-piece}
+use Rattle.serial_model.specs.State.{UnitState}
 use Rattle.shared_world.specs.declared.given.Given.TheVariants as given
 use Rattle.shared_world.specs.rows.Attempts.{ArePrunedFor, TasksGo}
 use Rattle.shared_world.specs.rows.Pieces.{ClaimsEnd, but_gone, is_task, piece_or_task, task_gone}
 use Rattle.shared_world.specs.Shared.{Shared, finished_by, is_going, unit_state}
+use Rattle.shared_world.specs.Seen.{live_with}
 use Rattle.shared_world.specs.Stands.{Stands}
 use Rattle.task_fork_join.specs.Attempt.{Attempt, names_in}
 use Rattle.task_fork_join.specs.declared.task.Task.{Task}
@@ -21,7 +24,7 @@ use Rattle.unit_table.specs.declared.unit.Unit.{Unit}
 use Rattle.unit_table.specs.Piece.{marked}
 use Rattle.value_core.specs.Named.{Name, Named, is_among, named, same_name}
 use Rattle.world_model.specs.StandsFor.{AttemptStands, IsAttempt}
-use Rattle.world_model.specs.World.{still}
+use Rattle.world_model.specs.World.{LiveUnit}
 
 -- a name is among those of the tasks where a task is there
 pub among-named : (q : Name) (tasks : Named Task) → is_among q (names_in tasks) ≡ is_some (named q tasks)
@@ -34,14 +37,17 @@ among-named q (e ∷ es) = on (same_name q e.0) (among-named q es)
 
 -- a unit that has an attempt is not finished
 pub trying-unfinished : (s : Shared) (st : Stands s) → s.end ≡ None → (u : Name) (x : Unit) (tree : Attempt) → unit_at s.board u ≡ Some x → named u s.attempts ≡ Some tree → finished_by x.mark ≡ None
-trying-unfinished s st going u x tree there attempt = stands.unfinished
+trying-unfinished s st going u x tree there attempt = ap (λ (k : UnitState). k.finished) (sym (now-kept (named u s.aheads) (unit_state x))) ∙ stands.unfinished
   where
     seen : SeenAs s st.world u tree
     seen = seen-as s st (ap is_going going) u tree attempt
 
-    stands : IsAttempt s.setup u (still (unit_state x)) seen.tried
-    stands = subst (λ found. AttemptStands s.setup u (Some (still (unit_state x))) found) seen.there
-        (subst (λ found. AttemptStands s.setup u found (st.world.attempts u)) (st.seen.units u ∙ ap (option_map still) (state-there s.board u x there)) (st.is_world.stands.attempts u))
+    live : LiveUnit
+    live = live_with (named u s.aheads) (unit_state x)
+
+    stands : IsAttempt s.setup u live seen.tried
+    stands = subst (λ found. AttemptStands s.setup u (Some live) found) seen.there
+        (subst (λ found. AttemptStands s.setup u found (st.world.attempts u)) (st.seen.units u ∙ ap (option_map (live_with (named u s.aheads))) (state-there s.board u x there)) (st.is_world.stands.attempts u))
 
 -- a unit stays, where tasks go
 pub unit-stays : (u : Name) (x : Unit) (names : List Name) (old new : Board) → unit_at old u ≡ Some x → TasksGone names old new → piece_at new u ≡ Some (piece.Unit x)

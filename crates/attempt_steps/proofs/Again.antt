@@ -72,13 +72,13 @@ module _ (base : Shared) (b : Board) (same : SamePieces base.board b) where
   }
 
   pub root-again : (u : Name) (x : Unit) (tree : Attempt) (ended : TaskEnd) (found : Given) (new : Shared) → RootGives mid u x tree ended found new → RootGives base u x tree ended found new
-  root-again u x tree ended found new (valid all row) = valid all (by ended row)
+  root-again u x tree ended found new (valid level all row) = valid level all (by ended row)
     where
       by : (e : TaskEnd) → EndGives mid u x tree e found new → EndGives base u x tree e found new
       by (end.Value v) r = commits-again u x tree v found new r
       by (end.Fault code at) r = record { found_is = r.found_is; pieces = λ q. r.pieces q ∙ same q; others = r.others }
       by end.Spent r = record { found_is = r.found_is; pieces = λ q. r.pieces q ∙ same q; others = r.others }
-  root-again u x tree ended found new (conflicts row) = conflicts (record {
+  root-again u x tree ended found new (conflicts level row) = conflicts level (record {
     conflict = row.conflict;
     first = row.first;
     ref = row.ref;

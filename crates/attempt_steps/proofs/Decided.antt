@@ -34,7 +34,7 @@ decided-abort old new owner c (Err e) trying changed r = r
 decided-abort old new owner c (Ok found) trying changed r = record {
   row = λ x tree ended there attempt is_ended.
       let is = at-attempt (named owner old.attempts) (λ (t : Attempt). IsValidated old.versions t (Some c)) tree attempt changed in
-      conflicts (record {
+      conflicts trying.level (record {
         conflict = is.conflict;
         first = is.first;
         ref = c.name;
@@ -48,10 +48,10 @@ decided-abort old new owner c (Ok found) trying changed r = record {
 }
 
 -- no conflict
-pub decided-settle : (old new : Shared) (owner : Name) (result : Result Given AllocError) → IfSome (named owner old.attempts) (λ tree. IsValidated old.versions tree None) → SettledOr old owner new result → DecidedOr old owner new result
-decided-settle old new owner (Err e) unchanged r = r
-decided-settle old new owner (Ok found) unchanged r = record {
-  row = λ x tree ended there attempt is_ended. valid (at-attempt (named owner old.attempts) (λ (t : Attempt). IsValidated old.versions t None) tree attempt unchanged) (r.row x tree ended there attempt is_ended);
+pub decided-settle : (old new : Shared) (owner : Name) (result : Result Given AllocError) → IsTrying old owner → IfSome (named owner old.attempts) (λ tree. IsValidated old.versions tree None) → SettledOr old owner new result → DecidedOr old owner new result
+decided-settle old new owner (Err e) trying unchanged r = r
+decided-settle old new owner (Ok found) trying unchanged r = record {
+  row = λ x tree ended there attempt is_ended. valid trying.level (at-attempt (named owner old.attempts) (λ (t : Attempt). IsValidated old.versions t None) tree attempt unchanged) (r.row x tree ended there attempt is_ended);
   claims = r.claims;
 }
 

@@ -165,8 +165,8 @@ decided-ends old new owner task x tree ended found is gives ends going ticket = 
         by-end end.Spent row = let no : false ≡ true = sym (ap (λ (s : Shared). is_going s.end) row.others) ∙ going in cc
 
         by : RootGives old owner x tree ended found new → is_gone old.board new.board task ≡ true
-        by (valid all row) = by-end ended row
-        by (conflicts row) = task-goes old new owner task row.aborts.unit tree is row.aborts.goes
+        by (valid level all row) = by-end ended row
+        by (conflicts level row) = task-goes old new owner task row.aborts.unit tree is row.aborts.goes
 
     at : (q : Name) (c : Bool) → same_name q task ≡ c → is_gone old.board new.board q ≡ (c || is_gone old.board new.board q)
     at q true e = ap (is_gone old.board new.board) (same_name-equal q task e) ∙ here

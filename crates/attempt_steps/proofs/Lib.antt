@@ -9,6 +9,5 @@ pub mod Ending
 pub mod Gone
 pub mod Letters
 pub mod Live
-pub mod Stepped
 pub mod Taking
 pub mod Wanting

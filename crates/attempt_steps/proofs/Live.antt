@@ -10,7 +10,9 @@ use Rattle.std.specs.Map.{lookup}
 use Rattle.std.specs.Prelude.{Contains, IsPermutation, None, Option, Some}
 use Rattle.value_core.proofs.NameMaps.{lookup_is_named}
 use Rattle.value_core.specs.Name.{after_cmp}
-use Rattle.shared_world.specs.rows.Attempts.{AreLive, IsWithout}
+use Rattle.ref_store.specs.declared.version.Version.{Version}
+use Rattle.ref_store.specs.Store.{ArePruned}
+use Rattle.shared_world.specs.rows.Attempts.{AreLive, ArePrunedFor, IsWithout}
 use Rattle.task_fork_join.specs.Attempt.{Attempt}
 
 -- it is all one which name stands first
@@ -42,6 +44,14 @@ pub sorted_live : (all : Named Attempt) (pushed sorted : List ℕ) → pushed �
 sorted_live all pushed sorted is permuted = record {
   each = λ u tree there. Contains-permutation pushed sorted tree.snapshot permuted (subst (λ (xs : List ℕ). Contains xs tree.snapshot) (sym is) (snapshot-there u tree all there));
   count = subst (λ n. n ≤ length all) (sym (length_permutation pushed sorted permuted ∙ ap length is ∙ snapshots-count all)) (le_refl (length all));
+}
+
+-- where nothing is to be pruned for so many, nothing is for the attempts
+pub not_due : (all : Named Attempt) (count : ℕ) (versions : Named (List Version)) → count ≡ length all → ((live : List ℕ) → length live ≡ count → ArePruned live versions versions) → ArePrunedFor all versions versions
+not_due all count versions is few = record {
+  live = snapshots_in all;
+  are_live = record { each = λ u tree there. snapshot-there u tree all there; count = subst (λ n. n ≤ length all) (sym (snapshots-count all)) (le_refl (length all)) };
+  pruned = few (snapshots_in all) (snapshots-count all ∙ sym is);
 }
 
 -- what is removed is gone

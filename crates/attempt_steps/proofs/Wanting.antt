@@ -9,7 +9,6 @@ use Rattle.attempt_steps.proofs.Decided.{at-attempt}
 use Rattle.attempt_steps.proofs.Again.{after-again, gone-again, root-again}
 use Rattle.world_steps.proofs.Forking.{same-claimed, same-stands}
 use Rattle.world_steps.proofs.Settling.{same-claims}
-use Rattle.attempt_steps.proofs.Stepped.{task-stays}
 use Rattle.world_steps.specs.Kept.{IsSameBut}
 use Rattle.attempt_steps.specs.Tasks as left_as
 use Rattle.attempt_steps.specs.Tasks.{ComesAfter, HasCome, HasStepped, IsLeft, IsSettling, IsTaskIn, IsTaskOf, IsWanting, TaskCame}
@@ -22,6 +21,8 @@ use Rattle.shared_world.proofs.Live.{no-unit}
 use Rattle.shared_world.proofs.MarkedTasks.{left-ended, left-settling, left-waiting}
 use Rattle.shared_world.proofs.Marks.{pieces-marks}
 use Rattle.shared_world.proofs.Steps.{marked-task, stepped}
+use Rattle.shared_world.proofs.Ages.{same-age}
+use Rattle.shared_world.specs.Counts.{age_of}
 use Rattle.shared_world.specs.declared.given.Given.{Given}
 use Rattle.shared_world.specs.Gave.{GaveTask}
 use Rattle.shared_world.specs.Marks.{HasMarks}
@@ -29,7 +30,8 @@ use Rattle.shared_world.specs.Returned.{halt_of}
 use Rattle.shared_world.specs.rows.Tasks.{StepsOn, TaskGives, outer_of}
 use Rattle.shared_world.specs.Shared.{Shared, is_going, unit_state}
 use Rattle.shared_world.specs.Stands.{IsUnderWay, Stands, start_of}
-use Rattle.task_fork_join.specs.Attempt.{AreTasks, Attempt, IsInside, IsKept, end_at, going, machine_of}
+use Rattle.task_fork_join.proofs.StepShapes.{IsShaped, shaped}
+use Rattle.task_fork_join.specs.Attempt.{Attempt, IsKept, end_at, going, machine_of}
 use Rattle.task_fork_join.specs.declared.stepped.Stepped.{Stepped}
 use Rattle.task_fork_join.specs.declared.task.Stage.{Stage}
 use Rattle.task_fork_join.specs.declared.task.Stage.TheVariants as stages
@@ -60,6 +62,7 @@ same-wanting old new name st is = record {
   here = inl (is.pieces name);
   others = λ other ne. is.pieces other;
   claims = λ ticket free. is.claims.to ticket;
+  ages = λ u. ap (λ (s : Shared). age_of s u) is.rest;
   marks = same-marks old new is;
   rest = is.rest ∙ ap (λ a. record old { attempts = a; board = new.board }) (sym (ap (λ (s : Shared). s.attempts) is.rest));
 }
@@ -71,18 +74,20 @@ settling-wanting old new task m st at is = record {
   here = inr is.marked.set.here;
   others = λ other ne. is.marked.set.others other ne;
   claims = is.claims;
+  ages = λ u. ap (λ (s : Shared). age_of s u) is.marked.others;
   marks = λ marks going. left-settling old (marks (sym (ap (λ (s : Shared). is_going s.end) is.marked.others) ∙ going)) task m at new is.marked;
   rest = is.marked.others ∙ ap (λ a. record old { attempts = a; board = new.board }) (sym (ap (λ (s : Shared). s.attempts) is.marked.others));
 }
 
 -- what is left after what took a step on what is the same but for room
-pub wanting-again : (old mid new : Shared) (name : Name) → SamePieces old.board mid.board → ((t : Ticket) → lent_to mid.board t ≡ lent_to old.board t) → mid ≡ record old { attempts = mid.attempts; board = mid.board } → (HasMarks old → HasMarks mid) → IsWanting mid name new
+pub wanting-again : (old mid new : Shared) (name : Name) → SamePieces old.board mid.board → ((t : Ticket) → lent_to mid.board t ≡ lent_to old.board t) → mid ≡ record old { attempts = mid.attempts; board = mid.board } → ((u : Name) → age_of mid u ≡ age_of old u) → (HasMarks old → HasMarks mid) → IsWanting mid name new
     → IsWanting old name new
-wanting-again old mid new name pieces to rest marks is = record {
+wanting-again old mid new name pieces to rest ages marks is = record {
   stands = is.stands;
   here = on (piece_at new.board name) is.here;
   others = λ other ne. is.others other ne ∙ pieces other;
   claims = λ ticket free. is.claims ticket (λ lent. free (sym (to ticket) ∙ lent)) ∙ to ticket;
+  ages = λ u. is.ages u ∙ ages u;
   marks = λ right. is.marks (marks right);
   rest = is.rest ∙ ap (λ (s : Shared). record s { attempts = new.attempts; board = new.board }) rest;
 }
@@ -133,17 +138,6 @@ going-with tree task machine is = on (named task tree.tasks) refl is
 pub kept-so : (tree : Attempt) (task : Name) (machine moved : Evaluation) → machine_of tree task ≡ Some machine → IsSame machine moved → IsKept task moved tree.tasks
 kept-so tree task machine moved is same = let with-machine = going-with tree task machine is in record { task = with-machine.t; there = with-machine.there; machine = machine; going = with-machine.stage; same = same }
 
--- the tasks of an attempt that is under way, seen from one of them
-pub are-tasks : (s : Shared) (u task : Name) (tree : Attempt) → IsUnderWay s u tree → IsSome (named task tree.tasks) → AreTasks task tree.tasks
-are-tasks s u task tree way there = record {
-  rooted = there;
-  inside = λ name t is. on t.stage (way.runs.members name t is).machine;
-}
-  where
-    on : (stage : Stage) → HasMachine (start_of s.setup u way.unit way.body way.values) stage → IsInside stage
-    on (stages.Going machine) is = is.inside
-    on (stages.Ended ended) is = tt
-
 outer-same : (old new : Board) (h : Halt) → SamePieces old new → outer_of new h ≡ outer_of old h
 outer-same old new (halt.Ask (request.Join f) at) same = ap (λ p. option_and_then (λ (unit : UnitState). unit.finished) (option_map unit_state (option_and_then unit_in p))) (same f)
 outer-same old new (halt.Ask (request.Print text) at) same = refl
@@ -189,19 +183,15 @@ module _ (old : Shared) (b : Board) (st : Stands old) (on_going : is_going old.e
     unit = is.task_in.unit;
     unit_there = ap (option_and_then unit_in) (same owner) ∙ is.task_in.unit_there;
     attempt = named-here owner after old.attempts;
-    among = on (named task after.tasks) (task-stays (snapshot_of old.versions is.tree.snapshot) task moved (outer_of b h) is.tree after went (are-tasks old owner task is.tree (st.attempts on_going owner is.tree is.task_in.attempt) some) kept h step.comes);
+    among = ap is_some shape.here;
     free = λ ticket lent. is.task_in.free ticket (sym (claims.to ticket) ∙ lent);
   }
     where
       kept : IsKept task moved is.tree.tasks
       kept = kept-so is.tree task is.machine moved is.kept is.same
 
-      some : IsSome (named task is.tree.tasks)
-      some = subst (λ (o : Option Task). IsSome o) (sym kept.there) refl
-
-      on : (o : Option Task) → IsSome o → is_some o ≡ true
-      on None is-some = cc
-      on (Some t) is-some = refl
+      shape : IsShaped is.tree.tasks task (outer_of b h) h went after.tasks
+      shape = shaped (snapshot_of old.versions is.tree.snapshot) task moved (outer_of b h) is.tree after went kept.task kept.there h step.comes
 
   -- what it comes to
   pub step-came : end_at is.tree ≡ None → (new : Shared) (found : Given) → HasCome mid owner task went new found → GaveTask old task found new
@@ -284,6 +274,9 @@ module _ (old mid : Shared) (st : Stands old) (on_going : is_going old.end ≡ t
       rest-so : new ≡ record old { attempts = with_named old.attempts owner t.after; board = new.board } → new ≡ record old { attempts = new.attempts; board = new.board }
       rest-so is = is ∙ ap (λ a. record old { attempts = a; board = new.board }) (sym (ap (λ (s : Shared). s.attempts) is))
 
+      ages-so : new ≡ record old { attempts = with_named old.attempts owner t.after; board = new.board } → (u : Name) → age_of new u ≡ age_of old u
+      ages-so so u = ap (λ (s : Shared). age_of s u) so ∙ same-age old owner is.tree t.after is.task_in.attempt t.step.stays.snapshot u
+
       before : end_at is.tree ≡ None
       before = at-attempt (named owner old.attempts) (λ (a : Attempt). end_at a ≡ None) is.tree is.task_in.attempt unended
 
@@ -303,6 +296,7 @@ module _ (old mid : Shared) (st : Stands old) (on_going : is_going old.end ≡ t
         here = inl (same.pieces task ∙ mid-piece task);
         others = λ other ne. same.pieces other ∙ mid-piece other;
         claims = λ ticket free. same.claims.to ticket ∙ mid-lent ticket;
+        ages = ages-so (on-base same.rest);
         marks = λ marks going. left-waiting old st (marks on_going) on_going owner task is.task_in.unit is.tree is.task_in.mark is.task_in.there is.of is.task_in.unit_there is.task_in.attempt before is.machine moved is.kept t.after went step new held
             (same.pieces task ∙ mid-piece task ∙ is.task_in.there) (λ q other. same.pieces q ∙ mid-piece q) (on-base same.rest);
         rest = rest-so (on-base same.rest);
@@ -312,6 +306,7 @@ module _ (old mid : Shared) (st : Stands old) (on_going : is_going old.end ≡ t
         here = inr settling.marked.set.here;
         others = λ other ne. settling.marked.set.others other ne ∙ mid-piece other;
         claims = λ ticket free. settling.claims ticket (λ lent. free (sym (mid-lent ticket) ∙ lent)) ∙ mid-lent ticket;
+        ages = ages-so (on-base settling.marked.others);
         marks = λ marks going.
             let end = mid-ended ended in
             left-ended old st (marks on_going) on_going owner task is.task_in.unit is.tree is.task_in.mark is.task_in.there is.of is.task_in.unit_there is.task_in.attempt before is.machine moved is.kept t.after went step new end.0 end.1
@@ -354,4 +349,5 @@ gave-again old b same claims task found new g = record {
 pub came-again : (old one new : Shared) (task : Name) (result : Result Given AllocError) → IsSameBut old one → TaskCame one task new result → TaskCame old task new result
 came-again old one new task (Ok found) same came = gave-again old one.board same.pieces same.claims task found new (subst (λ (s : Shared). GaveTask s task found new) same.rest came)
 came-again old one new task (Err e) same came =
-    wanting-again old one new task same.pieces same.claims.to (same.rest ∙ ap (λ a. record old { attempts = a; board = one.board }) (sym (ap (λ (s : Shared). s.attempts) same.rest))) (same-marks old one same) came
+    wanting-again old one new task same.pieces same.claims.to (same.rest ∙ ap (λ a. record old { attempts = a; board = one.board }) (sym (ap (λ (s : Shared). s.attempts) same.rest)))
+    (λ u. ap (λ (s : Shared). age_of s u) same.rest) (same-marks old one same) came

@@ -32,9 +32,10 @@ use Rattle.value_core.specs.declared.value.Value.{Value}
 use Rattle.value_core.specs.Named.{Name, Named, named}
 use Rattle.world_model.specs.rows.Commits.{effects_bytes}
 
--- the unit has an attempt, and no claim is on the unit
+-- the unit has an attempt and stands where the history left it, and no claim is on the unit
 pub record IsTrying (s : Shared) (owner : Name) : Type 0 where
   pub has : HasAttempt s owner
+  pub level : named owner s.aheads ≡ None
   pub free : IsFree s.board owner
 
 -- what comes of an attempt whose root is at its end; or for want of memory nothing changes

@@ -13,6 +13,7 @@ use Rattle.ref_store.specs.Version.{newest}
 use Rattle.serial_model.specs.declared.halt.Halt.{Halt}
 use Rattle.serial_model.specs.declared.halt.Halt.TheVariants as halt
 use Rattle.serial_model.specs.declared.request.Request.TheVariants as request
+use Rattle.shared_world.specs.Counts.{age_of}
 use Rattle.shared_world.specs.declared.given.Given.{Given}
 use Rattle.shared_world.specs.declared.given.Given.TheVariants as given
 use Rattle.shared_world.specs.Gave.{GaveTask, gone_with}
@@ -103,12 +104,14 @@ pub record HasStepped (refs : Name → Option Value) (owner task : Name) (moved 
   pub step : IsStep refs task moved outer h tree after went
 
 -- For want of memory the history, the refs, the bytes and the end stay, and so does every other piece; the piece is as it was, or
--- it is a task that is ready to settle; no claim ends but one on it; and the marks are right where they were.
+-- it is a task that is ready to settle; no claim ends but one on it; each attempt began where it did; and the marks are right where
+-- they were.
 pub record IsWanting (old : Shared) (name : Name) (new : Shared) : Type 0 where
   pub stands : Stands new
   pub here : (piece_at new.board name ≡ piece_at old.board name) ⊎ (piece_at new.board name ≡ Some (piece.Task (mark.Ready work.Settle)))
   pub others : (other : Name) → (other ≡ name → ⊥) → piece_at new.board other ≡ piece_at old.board other
   pub claims : (ticket : Ticket) → (lent_to old.board ticket ≡ Some name → ⊥) → lent_to new.board ticket ≡ lent_to old.board ticket
+  pub ages : (u : Name) → age_of new u ≡ age_of old u
   pub marks : HasMarks old → HasMarks new
   pub rest : new ≡ record old { attempts = new.attempts; board = new.board }
 

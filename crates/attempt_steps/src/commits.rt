@@ -23,6 +23,7 @@ use shared_world::Given;
 use std::alloc::{AllocError, Global};
 use std::collections::BTreeMap;
 use task_fork_join::Tree;
+use task_log::list_effects;
 use txn_snapshot::TaskLog;
 use value_core::name_map::find;
 use value_core::{Name, Value};
@@ -195,9 +196,10 @@ fn gathered_of(
     ensures { IfOk result (IsGatheredOf owner.now tree.now attempts.now.entries) }
 {
     let log = tree.root();
-    let text = printed(alloc, log.effects())?;
+    let effects = list_effects(alloc, log.effects())?;
+    let text = printed(alloc, &effects)?;
     let writes = written(alloc, log)?;
-    let deeds = deeds_of(alloc, owner, log.effects())?;
+    let deeds = deeds_of(alloc, owner, &effects)?;
     let live = room_for_snapshots(alloc, attempts)?;
     Ok(Gathered {
         writes,
@@ -212,12 +214,11 @@ fn written(alloc: Global, log: &TaskLog) -> Result<Writes, AllocError>
     ensures writes { IfOk result (λ writes. writes.items ≡ log.now.log.writes) }
     ensures rises { OnOk result (Rises log.now.log.writes) }
 {
-    let values = log.writes();
+    let entries = log.writes().entries()?;
     let mut writes = Writes::new(alloc);
-    writes.reserve(values.len())?;
-    for (name, value) in values {
-        let value = value.copy(alloc)?;
-        writes.put(name.copy(alloc)?, value)?;
+    writes.reserve(entries.len())?;
+    for (name, value) in entries {
+        writes.put(name, value)?;
     }
     Ok(writes)
 }

@@ -66,8 +66,21 @@ pub(crate) fn drop_attempt(attempts: &mut BTreeMap<Name, Tree>, units: &mut Unit
     }
 }
 
-/// What the live attempts read stays, and the newest version of each ref; of others few are kept. There is room for the snapshots.
-pub(crate) fn prune(attempts: &BTreeMap<Name, Tree>, store: &mut Store, mut live: Vec<u64>)
+/// What the live attempts read stays, and the newest version of each ref; of others few are kept. There is room for the snapshots,
+/// which are looked at only where a ref may have too many versions.
+pub(crate) fn prune(attempts: &BTreeMap<Name, Tree>, store: &mut Store, live: Vec<u64>)
+    requires empty { live.items ≡ [] }
+    requires room { length attempts.now.entries ≤ vec_capacity live }
+    ensures pruned { ArePrunedFor attempts.now.entries store.old.versions store.new.versions }
+{
+    if !store.is_due(attempts.len()) {
+        return;
+    }
+    prune_due(attempts, store, live);
+}
+
+/// The same, where a ref may have too many versions.
+fn prune_due(attempts: &BTreeMap<Name, Tree>, store: &mut Store, mut live: Vec<u64>)
     requires empty { live.items ≡ [] }
     requires room { length attempts.now.entries ≤ vec_capacity live }
     ensures pruned { ArePrunedFor attempts.now.entries store.old.versions store.new.versions }

@@ -80,13 +80,19 @@ no_status : (end : Option End) (s : ℕ) → end ≡ None → IfSome end (λ e. 
 no_status None s e = tt
 no_status (Some end) s e = absurd (cc)
 
--- a run that stopped for want of memory
+-- a run that stopped for want of memory, and wrote some of its bytes before
+pub Finished-cut : (p : Progress) (outcome : Outcome) (output : List ℕ) (old new : SinkSeen) → outcome.history.items ≡ p.history → IsSome (state_of p)
+    → IfSome (state_of p) (λ s. output ≡ s.bytes) → outcome.status ≡ 6 → outcome.end ≡ None → TookPrefix old.taken new.taken output → Finished p.setup old new outcome
+Finished-cut p outcome output old new entries is bytes six none took =
+    Finished-of p outcome output old new entries is bytes (no_end (state_of p) p.setup outcome.end none) took
+    (λ w. absurd (not_written_six outcome.status old new six w)) (λ e. no_status outcome.end outcome.status none)
+
+-- and one that wrote none
 pub Finished-stopped : (p : Progress) (outcome : Outcome) (old new : SinkSeen) → outcome.history.items ≡ p.history → IsSome (state_of p)
     → outcome.status ≡ 6 → outcome.end ≡ None → new.taken ≡ old.taken → Finished p.setup old new outcome
 Finished-stopped p outcome old new entries is six none same =
     let there = the_state (state_of p) is in
-    Finished-of p outcome there.0.bytes old new entries is (bytes (state_of p) there.0 there.1) (no_end (state_of p) p.setup outcome.end none)
-    (TookPrefix-none old.taken new.taken there.0.bytes same) (λ w. absurd (not_written_six outcome.status old new six w)) (λ e. no_status outcome.end outcome.status none)
+    Finished-cut p outcome there.0.bytes old new entries is (bytes (state_of p) there.0 there.1) six none (TookPrefix-none old.taken new.taken there.0.bytes same)
   where
     bytes : (o : Option State) (s : State) → o ≡ Some s → IfSome o (λ t. s.bytes ≡ t.bytes)
     bytes None s e = tt

@@ -8,6 +8,7 @@ pub mod Making
 pub mod Replaying
 pub mod ScheduleRuns
 pub mod Stopped
+pub mod Stressing
 pub mod Stuck
 pub mod Tracing
 pub mod UnitsMade

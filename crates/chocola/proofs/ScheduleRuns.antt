@@ -5,7 +5,6 @@ use Rattle.core_syntax.specs.Table.{Table}
 use Rattle.schedule_text.proofs.Unique.{not_refused}
 use Rattle.schedule_text.specs.Schedule.{IsTextOfSchedule, schedule_refusal}
 use Rattle.schedule_text.specs.declared.line.Line.{Line}
-use Rattle.serial_model.specs.Actors.{IsWithoutActors}
 use Rattle.serial_model.specs.Limits.{Budget}
 use Rattle.serial_model.specs.State.{Setup}
 use Rattle.world_io.specs.Counts.{Rose}
@@ -20,12 +19,12 @@ use Rattle.chocola.specs.ScheduleAnswers.{IsScheduleRun, Reports, ScheduleAnswer
 use Rattle.command_phases.specs.Seen.{Seen, NoWriteFailed, seen}
 use Rattle.world_io.specs.Seen.{FilesSeen}
 use Rattle.command_phases.proofs.Statuses.{is_done, must_tell, no_run, not_four, not_three}
-use Rattle.command_phases.proofs.Loading.{found_program, held_bytes}
+use Rattle.command_phases.proofs.Loading.{held_bytes}
 use Rattle.command_phases.proofs.PairErrors.{reads_pair}
 use Rattle.chocola.proofs.Tracing.{KeepsTrace-read}
 
 module _ (file schedule : List ℕ) (limits : Budget) (trace : Option (List ℕ)) (before after : Seen) (mid : FilesSeen) (outcome : Outcome) (program : Table) (lines : List Line)
-    (loaded : IsLoaded (told before.files.held file) program) (covered : IsWithoutActors program) (scheduled : IsHeldAs (IsTextOfSchedule lines) (told before.files.held schedule))
+    (loaded : IsLoaded (told before.files.held file) program) (scheduled : IsHeldAs (IsTextOfSchedule lines) (told before.files.held schedule))
     (quiet : mid.read_faults ≡ before.files.read_faults) (same : mid.held ≡ before.files.held) (none : mid.write_faults ≡ before.files.write_faults) where
   abbrev setup : Setup
   setup = record { program = program; limits = limits }
@@ -48,7 +47,6 @@ module _ (file schedule : List ℕ) (limits : Budget) (trace : Option (List ℕ)
           lines = lines;
           read = loaded.read;
           source = loaded.source;
-          covered = covered;
           read_schedule = scheduled.read;
           is_text = scheduled.text;
           finished = answers.finished;
@@ -59,13 +57,11 @@ module _ (file schedule : List ℕ) (limits : Budget) (trace : Option (List ℕ)
           run = λ e. run;
           ended = answers.ended;
           unless_memory = λ m. inr run;
-          complete = λ bytes text other others is source without given is_text calm. is_done outcome answers.statuses answers.ended
+          complete = λ bytes text other others is source given is_text calm. is_done outcome answers.statuses answers.ended
               (answers.finished.status_is_the_ends (λ seven. elim (rises seven) [ inl o ↦ calm.out o | inr x ↦ elim x [ inl e ↦ calm.err e | inr w ↦ calm.writes w ] ]));
           keeps = KeepsTrace-read limits trace before after mid outcome same none answers.keeps;
           reads = reads_pair file schedule before after outcome program (IsTextOfSchedule lines) loaded scheduled (answers.reads ∙ quiet) (must_tell before after outcome.status answers.statuses unfailed);
-          must_refuse_actors = λ bytes other is source actors there calm.
-              absurd (actors (subst (λ p. IsWithoutActors p) (found_program file before.files after.files bytes is program other loaded source) covered));
-          must_refuse_schedule = λ bytes text other kind at is source without given refusal calm.
+          must_refuse_schedule = λ bytes text other kind at is source given refusal calm.
               let held = held_bytes (told before.files.held schedule) text scheduled.bytes given scheduled.read in
               absurd (not_refused scheduled.bytes lines kind at scheduled.text (subst (λ b. schedule_refusal b kind at) held refusal));
           refused = λ four. absurd (not_four outcome.status answers.statuses four);

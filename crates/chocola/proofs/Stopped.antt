@@ -22,13 +22,13 @@ module _ (outcome : Outcome) (six : outcome.status ≡ 6) where
   pub SaysOutcome-stopped : (old new : SinkSeen) → SaysLine memory_line old new → SaysOutcome outcome.status outcome.detail outcome.end old new
   SaysOutcome-stopped old new line = record { said = rw six line.said; said_at_most = rw six line.said_at_most; end_said = λ ended written. absurd (not_ended ended) }
 
-  pub ProgramAnswers-stopped : (setup : Setup) (trace : Option (List ℕ)) (before : Seen) (err : SinkSeen) → outcome.detail ≡ Nothing → outcome.end ≡ None
-      → Finished setup before.out before.out outcome → ProgramAnswers setup trace before (record before { err = err }) outcome
-  ProgramAnswers-stopped setup trace before err nothing none finished = record {
+  pub ProgramAnswers-stopped : (setup : Setup) (trace : Option (List ℕ)) (before : Seen) (out err : SinkSeen) → outcome.detail ≡ Nothing → outcome.end ≡ None
+      → Finished setup before.out out outcome → ProgramAnswers setup trace before (record before { out = out; err = err }) outcome
+  ProgramAnswers-stopped setup trace before out err nothing none finished = record {
     statuses = inr six;
     finished = finished;
     ended = λ ended. absurd (not_ended ended);
-    keeps = KeepsTrace-none setup.limits trace before (record before { err = err }) outcome none (record { held = refl; faults = refl });
+    keeps = KeepsTrace-none setup.limits trace before (record before { out = out; err = err }) outcome none (record { held = refl; faults = refl });
     not_written = λ seven. absurd (omega (arith, six, seven));
     unfailed = λ apart apart_six. absurd (apart_six six);
     detail = nothing;

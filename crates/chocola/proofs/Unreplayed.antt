@@ -11,7 +11,7 @@ use Rattle.command_phases.specs.declared.outcome.Outcome.{Outcome}
 use Rattle.command_phases.specs.declared.outcome.Part.TheVariants as part
 use Rattle.command_phases.specs.LineWritten.{SaysLine}
 use Rattle.command_phases.specs.Lines.{pair_line}
-use Rattle.command_phases.specs.LoadPair.{IsAny, IsTraceDue, RefusesPair}
+use Rattle.command_phases.specs.LoadPair.{IsTraceDue, RefusesPair}
 use Rattle.command_phases.specs.Outcome.{IsIdle, pair_detail, pair_status, refused_trace}
 use Rattle.command_phases.specs.Program.{IsProgramOf}
 use Rattle.command_phases.specs.Seen.{Seen, IsGiven, IsUntouched, ReadsWell}
@@ -24,24 +24,21 @@ use Rattle.chocola.specs.ReplayAnswers.{IsReplayed, ReplayAnswers}
 not_replayed : (error : PairNo) → IsReplayed (pair_status error) → ⊥
 not_replayed error h = elim h [ inl e ↦ pair_not_ended error e | inr e ↦ pair_not_eight error e ]
 
-module _ (file trace : List ℕ) (before after : Seen) (error : PairNo) (h : RefusesPair IsAny trace_refusal file trace before.files after.files error) where
+module _ (file trace : List ℕ) (before after : Seen) (error : PairNo) (h : RefusesPair trace_refusal file trace before.files after.files error) where
   is_refused : pair_status error ≡ 4 → IsRefusedSource (told before.files.held file) (pair_detail part.Trace error)
       ⊎ ((kind : LineKind) × (line : ℕ) × IsTraceDue (told before.files.held trace) kind line × (pair_detail part.Trace error ≡ refused_trace kind line))
-  is_refused four = elim (pair_refused IsAny trace_refusal part.Trace file trace before after error h four) [
-    | inl source ↦ inl source
-    | inr rest ↦ elim rest [ inl never ↦ absurd (never.2 tt) | inr due ↦ inr due ]
-  ]
+  is_refused four = pair_refused trace_refusal part.Trace file trace before after error h four
 
   completes : (bytes text : List ℕ) (program : Table) (stated : Trace) → IsGiven file bytes before → IsProgramOf bytes program → IsGiven trace text before → IsTextOfTrace stated text
       → ReadsWell before after → pair_status error ≡ 6
   completes bytes text program stated is source is_trace is_text calm =
-      pair_completes IsAny trace_refusal part.Trace file trace before after bytes is calm program source tt text is_trace error h
+      pair_completes trace_refusal part.Trace file trace before after bytes is calm program source text is_trace error h
       (λ kind line refusal. not_refused text stated kind line is_text refusal)
 
   must_refuse : (bytes text : List ℕ) (program : Table) (kind : LineKind) (line : ℕ) → IsGiven file bytes before → IsProgramOf bytes program → IsGiven trace text before
       → trace_refusal text kind line → ReadsWell before after → ((pair_status error ≡ 4) × (pair_detail part.Trace error ≡ refused_trace kind line)) ⊎ (pair_status error ≡ 6)
   must_refuse bytes text program kind line is source is_trace refusal calm =
-      pair_must_refuse_lines IsAny trace_refusal part.Trace file trace before after bytes is calm program source tt text is_trace error h kind line
+      pair_must_refuse_lines trace_refusal part.Trace file trace before after bytes is calm program source text is_trace error h kind line
       (λ k l due. one_refusal text k kind l line due refusal)
 
   pub replay_error : (outcome : Outcome) → IsUnrun (pair_status error) (pair_detail part.Trace error) outcome → after.out.taken ≡ before.out.taken → IsUntouched before after
@@ -54,7 +51,7 @@ module _ (file trace : List ℕ) (before after : Seen) (error : PairNo) (h : Ref
         unless_memory = λ m. inl idle;
         complete = λ bytes text program stated is source is_trace is_text calm replays. inr (unrun.status ∙ completes bytes text program stated is source is_trace is_text calm.reads);
         must_differ = λ bytes text program stated is source is_trace is_text calm never. inr (unrun.status ∙ completes bytes text program stated is source is_trace is_text calm.reads);
-        reads = reads_pair_error IsAny trace_refusal part.Trace file trace before after outcome error h unrun;
+        reads = reads_pair_error trace_refusal part.Trace file trace before after outcome error h unrun;
         must_refuse_trace = λ bytes text program kind line is source is_trace refusal calm.
             rw (unrun.status, unrun.detail) (must_refuse bytes text program kind line is source is_trace refusal calm);
         refused = λ four. rw unrun.detail (is_refused (sym unrun.status ∙ four));
@@ -62,6 +59,6 @@ module _ (file trace : List ℕ) (before after : Seen) (error : PairNo) (h : Ref
         files = files;
         idle = λ w. idle;
         no_detail = λ s. unrun.detail ∙ pair_no_detail part.Trace error (λ four. elim s [ inl three ↦ omega (arith, unrun.status, four, three) | inr six ↦ omega (arith, unrun.status, four, six) ]);
-        says = says_pair_error IsAny trace_refusal part.Trace file trace before after outcome error h unrun line;
+        says = says_pair_error trace_refusal part.Trace file trace before after outcome error h unrun line;
         differs_said = λ eight. absurd (not_replayed error (inr (sym unrun.status ∙ eight)));
       }

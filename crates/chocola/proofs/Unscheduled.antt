@@ -3,7 +3,6 @@ use Rattle.std.proofs.Common.{◌≡◌, ℕ, List, sym, ◌∙◌, subst, inl, 
 use Rattle.std.specs.Prelude.{Option}
 use Rattle.schedule_text.proofs.Unique.{not_refused, one_refusal}
 use Rattle.schedule_text.specs.Schedule.{schedule_refusal}
-use Rattle.serial_model.specs.Actors.{IsWithoutActors}
 use Rattle.serial_model.specs.Limits.{Budget}
 use Rattle.command_phases.specs.declared.load_pair.PairNo.{PairNo}
 use Rattle.command_phases.specs.declared.outcome.Outcome.{Outcome}
@@ -14,11 +13,11 @@ use Rattle.command_phases.specs.LoadPair.{RefusesPair}
 use Rattle.command_phases.specs.Outcome.{IsEnded, IsIdle, pair_detail, pair_status}
 use Rattle.command_phases.specs.Seen.{Seen, IsUntouched}
 use Rattle.command_phases.specs.Unrun.{IsUnrun}
-use Rattle.command_phases.proofs.PairErrors.{pair_completes, pair_is_without, pair_must_refuse_lines, pair_must_refuse_program, pair_no_detail, pair_not_ended, pair_refused, reads_pair_error, says_pair_error}
+use Rattle.command_phases.proofs.PairErrors.{pair_completes, pair_is_without, pair_must_refuse_lines, pair_no_detail, pair_not_ended, pair_refused, reads_pair_error, says_pair_error}
 use Rattle.chocola.specs.ScheduleAnswers.{ScheduleAnswers}
 use Rattle.chocola.proofs.Tracing.{KeepsTrace-none}
 
-module _ (file schedule : List ℕ) (before after : Seen) (outcome : Outcome) (error : PairNo) (h : RefusesPair (λ p. IsWithoutActors p) schedule_refusal file schedule before.files after.files error)
+module _ (file schedule : List ℕ) (before after : Seen) (outcome : Outcome) (error : PairNo) (h : RefusesPair schedule_refusal file schedule before.files after.files error)
     (unrun : IsUnrun (pair_status error) (pair_detail part.Schedule error) outcome) where
   never_ended : IsEnded outcome.status → ⊥
   never_ended e = pair_not_ended error (subst IsEnded unrun.status e)
@@ -32,19 +31,17 @@ module _ (file schedule : List ℕ) (before after : Seen) (outcome : Outcome) (e
         run = λ e. absurd (never_ended e);
         ended = λ e. absurd (never_ended e);
         unless_memory = λ six. inl idle;
-        complete = λ bytes text program lines is source covered given is_text calm.
-            inr (unrun.status ∙ pair_completes (λ p. IsWithoutActors p) schedule_refusal part.Schedule file schedule before after bytes is calm.reads program source covered text given error h
+        complete = λ bytes text program lines is source given is_text calm.
+            inr (unrun.status ∙ pair_completes schedule_refusal part.Schedule file schedule before after bytes is calm.reads program source text given error h
             (λ kind line refusal. not_refused text lines kind line is_text refusal));
         keeps = KeepsTrace-none limits trace before after outcome unrun.end files;
-        reads = reads_pair_error (λ p. IsWithoutActors p) schedule_refusal part.Schedule file schedule before after outcome error h unrun;
-        must_refuse_actors = λ bytes program is source actors there calm. rw (unrun.status, unrun.detail)
-            (pair_must_refuse_program (λ p. IsWithoutActors p) schedule_refusal part.Schedule file schedule before after bytes is calm program source error h actors there);
-        must_refuse_schedule = λ bytes text program kind line is source covered given refusal calm. rw (unrun.status, unrun.detail)
-            (pair_must_refuse_lines (λ p. IsWithoutActors p) schedule_refusal part.Schedule file schedule before after bytes is calm program source covered text given error h kind line
+        reads = reads_pair_error schedule_refusal part.Schedule file schedule before after outcome error h unrun;
+        must_refuse_schedule = λ bytes text program kind line is source given refusal calm. rw (unrun.status, unrun.detail)
+            (pair_must_refuse_lines schedule_refusal part.Schedule file schedule before after bytes is calm program source text given error h kind line
             (λ k l due. one_refusal text k kind l line due refusal));
-        refused = λ four. rw unrun.detail (pair_refused (λ p. IsWithoutActors p) schedule_refusal part.Schedule file schedule before after error h (sym unrun.status ∙ four));
+        refused = λ four. rw unrun.detail (pair_refused schedule_refusal part.Schedule file schedule before after error h (sym unrun.status ∙ four));
         not_written = λ seven. absurd (never_ended (inr (inr (inr seven))));
         idle = λ w. idle;
         detail = λ apart. unrun.detail ∙ pair_no_detail part.Schedule error (λ e. apart (unrun.status ∙ e));
-        says = λ e. says_pair_error (λ p. IsWithoutActors p) schedule_refusal part.Schedule file schedule before after outcome error h unrun line;
+        says = λ e. says_pair_error schedule_refusal part.Schedule file schedule before after outcome error h unrun line;
       }

@@ -18,7 +18,9 @@ use Rattle.command_phases.specs.Seen.{Seen, seen, IsUntouched}
 use Rattle.command_phases.specs.SourceAnswers.{ReadsSource, Says}
 use Rattle.command_phases.specs.Unrun.{IsUnrun}
 use Rattle.command_phases.proofs.Statuses.{six_not_ended}
+use Rattle.chocola.specs.StressAnswers.{StressAnswers}
 use Rattle.chocola.proofs.Making.{make_without_memory}
+use Rattle.chocola.proofs.Stressing.{stress_without_memory}
 use Rattle.chocola.proofs.Tracing.{KeepsTrace-none}
 
 module _ (words : List (List ℕ)) (files : FilesSeen) (out err err2 : SinkSeen) (outcome : Outcome) (unrun : IsUnrun 6 Nothing outcome) (line : SaysLine memory_line err err2) where
@@ -86,11 +88,10 @@ module _ (words : List (List ℕ)) (files : FilesSeen) (out err err2 : SinkSeen)
     run = λ ended. absurd (not_ended ended);
     ended = λ ended. absurd (not_ended ended);
     unless_memory = λ is. inl idle;
-    complete = λ bytes text program lines found source covered held is_text calm. inr six;
+    complete = λ bytes text program lines found source held is_text calm. inr six;
     keeps = KeepsTrace-none limits trace before after outcome unrun.end same;
     reads = reads file (file ∷ given ∷ []);
-    must_refuse_actors = λ bytes program found source actors there calm. inr six;
-    must_refuse_schedule = λ bytes text program kind line found source covered held refusal calm. inr six;
+    must_refuse_schedule = λ bytes text program kind line found source held refusal calm. inr six;
     refused = λ four. absurd (omega (arith, six, four));
     not_written = λ seven. absurd (omega (arith, six, seven));
     idle = λ w. absurd (not_without w);
@@ -132,17 +133,21 @@ module _ (words : List (List ℕ)) (files : FilesSeen) (out err err2 : SinkSeen)
     says = says (file ∷ []);
   }
 
+  stress : (number size : ℕ) → StressAnswers number size before after outcome
+  stress number size = stress_without_memory number size files out err err2 outcome unrun line
+
   make : (number size : ℕ) → MakeAnswers number size before after outcome
   make number size = make_without_memory number size files out err err2 outcome unrun line
 
   pub without_memory : Answers words before after outcome
   without_memory = record {
     statuses = inl (inr (inr six));
-    run = λ file limits trace is. run file limits trace;
+    run = λ file workers limits trace is. run file limits trace;
     schedule = λ file given limits trace is. schedule file given limits trace;
     replay = λ file trace is. replay file trace;
     check = λ file is. check file;
     make = λ number size is. make number size;
+    stress = λ number size workers is. stress number size;
     no_command = λ is. record { status = inr six; idle = idle; reads = refl; detail = unrun.detail; says = says [] };
     usage = λ two. absurd (omega (arith, six, two));
     no_count_falls = record { reads = le_refl files.read_faults; writes = le_refl files.write_faults; out = le_refl out.faults; err = line.later };

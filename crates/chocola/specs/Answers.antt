@@ -11,19 +11,21 @@ use Rattle.command_phases.specs.Outcome.{IsStatus}
 use Rattle.chocola.specs.ReplayAnswers.{ReplayAnswers}
 use Rattle.chocola.specs.RunAnswers.{RunAnswers}
 use Rattle.chocola.specs.ScheduleAnswers.{ScheduleAnswers}
+use Rattle.chocola.specs.StressAnswers.{StressAnswers}
 use Rattle.command_phases.specs.Seen.{Seen, IsLater}
 use Rattle.command_phases.specs.Status as exit
 
 -- what is owed to each command, and to words that say none
 pub record Answers (words : List (List ℕ)) (before after : Seen) (outcome : Outcome) : Type 0 where
   pub statuses : IsStatus outcome.status
-  pub run : (file : List ℕ) (limits : Budget) (trace : Option (List ℕ)) → command_of words ≡ Some (said.Run file limits trace)
+  pub run : (file : List ℕ) (workers : ℕ) (limits : Budget) (trace : Option (List ℕ)) → command_of words ≡ Some (said.Run file workers limits trace)
       → RunAnswers file limits trace before after outcome
   pub schedule : (file schedule : List ℕ) (limits : Budget) (trace : Option (List ℕ)) → command_of words ≡ Some (said.Schedule file schedule limits trace)
       → ScheduleAnswers file schedule limits trace before after outcome
   pub replay : (file trace : List ℕ) → command_of words ≡ Some (said.Replay file trace) → ReplayAnswers file trace before after outcome
   pub check : (file : List ℕ) → command_of words ≡ Some (said.Check file) → CheckAnswers file before after outcome
   pub make : (number size : ℕ) → command_of words ≡ Some (said.Make number size) → MakeAnswers number size before after outcome
+  pub stress : (number size workers : ℕ) → command_of words ≡ Some (said.Stress number size workers) → StressAnswers number size before after outcome
   pub no_command : command_of words ≡ None → NoCommand before after outcome
   pub usage : outcome.status ≡ exit.usage → command_of words ≡ None
   pub no_count_falls : IsLater before after

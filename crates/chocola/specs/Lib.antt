@@ -10,3 +10,4 @@ pub mod ReplayWritten
 pub mod Replayed
 pub mod RunAnswers
 pub mod ScheduleAnswers
+pub mod StressAnswers

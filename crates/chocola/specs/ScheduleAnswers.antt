@@ -3,7 +3,6 @@ use Rattle.std.specs.Prelude.{◌≡◌, ◌≢◌, ℕ, ◌⊎◌, List, [], �
 use Rattle.core_syntax.specs.Table.{Table}
 use Rattle.schedule_text.specs.declared.line.Line.{Line}
 use Rattle.schedule_text.specs.Schedule.{IsTextOfSchedule, schedule_refusal}
-use Rattle.serial_model.specs.Actors.{IsWithoutActors}
 use Rattle.serial_model.specs.Limits.{Budget}
 use Rattle.serial_model.specs.State.{Setup}
 use Rattle.serial_model.specs.declared.trace.LineKind.{LineKind}
@@ -15,8 +14,8 @@ use Rattle.command_phases.specs.declared.outcome.Detail.{Detail}
 use Rattle.command_phases.specs.declared.outcome.Detail.TheVariants.{Nothing}
 use Rattle.chocola.specs.Driven.{IsReportOf}
 use Rattle.command_phases.specs.Load.{IsLoaded}
-use Rattle.command_phases.specs.LoadPair.{HasActors, IsScheduleDue}
-use Rattle.command_phases.specs.Outcome.{IsEnded, IsWithoutRun, IsOfSource, IsStatusOfEnd, IsIdle, Finished, not_yet, refused_schedule}
+use Rattle.command_phases.specs.LoadPair.{IsScheduleDue}
+use Rattle.command_phases.specs.Outcome.{IsEnded, IsWithoutRun, IsOfSource, IsStatusOfEnd, IsIdle, Finished, refused_schedule}
 use Rattle.command_phases.specs.Program.{IsProgramOf}
 use Rattle.command_phases.specs.SaysReport.{SaysReport}
 use Rattle.command_phases.specs.Seen.{Seen, ReadsWell, IsCalm, IsGiven}
@@ -39,18 +38,16 @@ pub record IsScheduleRun (file schedule : List ℕ) (limits : Budget) (before af
   pub lines : List Line
   pub read : IsHeld (told before.files.held file) bytes
   pub source : IsProgramOf bytes program
-  pub covered : IsWithoutActors program
   pub read_schedule : IsHeld (told before.files.held schedule) text
   pub is_text : IsTextOfSchedule lines text
   pub finished : Finished (record { program = program; limits = limits }) before.out after.out outcome
   pub reported : IsEnded outcome.status → Reports (record { program = program; limits = limits }) lines before.err after.err outcome
 
--- the cause of a refusal: the source, or a program that can't be run by a schedule yet, or the schedule
+-- the cause of a refusal: the source, or the schedule
 abbrev pub IsRefusedSchedule : List ℕ → List ℕ → Seen → Detail → Type 0
 IsRefusedSchedule file schedule before detail =
     IsRefusedSource (told before.files.held file) detail
-    ⊎ (((program : Table) × IsLoaded (told before.files.held file) program × HasActors program × (detail ≡ not_yet))
-    ⊎ ((kind : LineKind) × (line : ℕ) × IsScheduleDue (told before.files.held schedule) kind line × (detail ≡ refused_schedule kind line)))
+    ⊎ ((kind : LineKind) × (line : ℕ) × IsScheduleDue (told before.files.held schedule) kind line × (detail ≡ refused_schedule kind line))
 
 pub record ScheduleAnswers (file schedule : List ℕ) (limits : Budget) (trace : Option (List ℕ)) (before after : Seen) (outcome : Outcome) : Type 0 where
   pub statuses : IsOfSource outcome.status
@@ -58,16 +55,13 @@ pub record ScheduleAnswers (file schedule : List ℕ) (limits : Budget) (trace :
   pub run : IsEnded outcome.status → IsScheduleRun file schedule limits before after outcome
   pub ended : IsEnded outcome.status → IsSome outcome.end
   pub unless_memory : outcome.status ≡ exit.no_memory → IsIdle before after outcome ⊎ IsScheduleRun file schedule limits before after outcome
-  pub complete : (bytes text : List ℕ) (program : Table) (lines : List Line) → IsGiven file bytes before → IsProgramOf bytes program → IsWithoutActors program
+  pub complete : (bytes text : List ℕ) (program : Table) (lines : List Line) → IsGiven file bytes before → IsProgramOf bytes program
       → IsGiven schedule text before → IsTextOfSchedule lines text → IsCalm before after → IsStatusOfEnd outcome ⊎ (outcome.status ≡ exit.no_memory)
   pub keeps : KeepsTrace limits trace before after outcome
   -- the causes of the other statuses
   pub reads : ReadsSource file (file ∷ schedule ∷ []) before after outcome
-  pub must_refuse_actors : (bytes : List ℕ) (program : Table) → IsGiven file bytes before → IsProgramOf bytes program → HasActors program
-      → AreThere (file ∷ schedule ∷ []) before → ReadsWell before after
-      → ((outcome.status ≡ exit.refused) × (outcome.detail ≡ not_yet)) ⊎ (outcome.status ≡ exit.no_memory)
   pub must_refuse_schedule : (bytes text : List ℕ) (program : Table) (kind : LineKind) (line : ℕ) → IsGiven file bytes before → IsProgramOf bytes program
-      → IsWithoutActors program → IsGiven schedule text before → schedule_refusal text kind line → ReadsWell before after
+      → IsGiven schedule text before → schedule_refusal text kind line → ReadsWell before after
       → ((outcome.status ≡ exit.refused) × (outcome.detail ≡ refused_schedule kind line)) ⊎ (outcome.status ≡ exit.no_memory)
   pub refused : outcome.status ≡ exit.refused → IsRefusedSchedule file schedule before outcome.detail
   pub not_written : outcome.status ≡ exit.not_written

@@ -3,28 +3,32 @@
 
 mod check_command;
 mod make_command;
+mod opening;
 mod outside;
 mod replay;
 mod replay_command;
-mod run;
 mod run_command;
 mod schedule_command;
+mod stress_command;
 mod top;
 
 use std::env;
 use std::process::ExitCode;
 use std::rt::Env;
 use top::chocola;
+use worker_gate::NoGate;
 use world_io::{HostErr, HostFiles, HostOut};
 
 fn main(rt: HostRuntime) -> ExitCode {
     let words = command_words(&rt);
     let outcome = chocola(
+        &rt,
         rt.alloc(),
         words.as_slice(),
         &mut HostFiles::new(&rt),
         &mut HostOut::new(rt.stdout()),
         &mut HostErr::new(rt.stderr()),
+        &NoGate,
     );
     ExitCode::from(outcome.status)
 }

@@ -1,12 +1,14 @@
-ghost use Rattle.std.specs.Prelude.{◌≡◌, ◌↔◌, [], length, take, IfSome, IsSome, IsTrue};
+ghost use Rattle.std.specs.Prelude.{◌≡◌, ◌↔◌, [], length, take, IfOk, IfSome, IsSome, IsTrue};
 ghost use Rattle.serial_model.specs.Replay.{IsOver};
 ghost use Rattle.serial_machine.specs.Progress.{state_of};
 ghost use Rattle.chocola.specs.Replayed.{ReplaysTo, FindsEnd};
 
 use command_phases::is_same_end;
+use core_syntax::Program;
 use serial_machine::{Serial, SerialNo};
-use serial_model::{End, Trace};
-use std::alloc::Global;
+use serial_model::{End, Limits, Trace};
+use std::alloc::{AllocError, Global};
+use std::sync::Arc;
 
 /// How a replay comes out.
 #[derive(Drop)]
@@ -15,6 +17,14 @@ pub enum Replayed {
     Agrees,
     /// The next entry is not enabled, or the end is another. This is the end found, where the run is over.
     Differs(Option<End>),
+}
+
+/// The run of the program under these limits, before its first entry.
+pub fn opened(alloc: Global, program: Program, limits: Limits) -> Result<Serial, AllocError>
+    ensures setup { IfOk result (λ serial. serial.setup ≡ record { program = program; limits = limits }) }
+    ensures history { IfOk result (λ serial. serial.history ≡ []) }
+{
+    Serial::new(alloc, Arc::new(alloc, program)?, limits)
 }
 
 /// Replays the entries of the trace up to the first that is not enabled, and compares the end. It stops for want of

@@ -1,6 +1,8 @@
 ghost use Rattle.std.specs.Prelude.{◌≡◌, ◌⊎◌, ◌+◌, None, Some, IfSome, length};
 ghost use Rattle.serial_model.specs.Replay.{IsOver};
 ghost use Rattle.serial_machine.specs.Progress.{state_of};
+ghost use Rattle.command_phases.specs.LineWritten.{SaysLine};
+ghost use Rattle.command_phases.specs.Lines.{memory_line};
 ghost use Rattle.command_phases.specs.Outcome.{IsEnded, Finished};
 ghost use Rattle.command_phases.specs.Seen.{IsLater};
 ghost use Rattle.command_phases.specs.Status as exit;
@@ -9,11 +11,10 @@ ghost use Rattle.chocola.specs.ReplayAnswers.{ReplayAnswers, ReplayOf};
 ghost use Rattle.chocola.specs.ReplayWritten.{ReplayWritten};
 
 use crate::outside::Outside;
-use crate::replay::{Replayed, replay};
-use crate::run::{opened, stopped};
+use crate::replay::{Replayed, opened, replay};
 use command_phases::{
     Detail, Given, Outcome, Part, end_line, load_replay, out_of_memory, say_differs, say_end,
-    without_pair,
+    stopped_after, without_pair,
 };
 use serial_machine::Serial;
 use serial_model::{End, Entry};
@@ -122,4 +123,15 @@ fn line_after(entries: &[Entry]) -> u64
     ensures { result ≡ 3 + length entries.now }
 {
     entries.len() as u64 + 3
+}
+
+/// The outcome of a replay that stopped for want of memory, which it says.
+fn stopped<E: Sink>(serial: Serial, err: &mut E) -> Outcome
+    ensures status { result.status ≡ exit.no_memory }
+    ensures detail { result.detail ≡ Detail.Nothing }
+    ensures history { result.history.items ≡ serial.history }
+    ensures end { result.end ≡ None }
+    ensures says { SaysLine memory_line (E.seen err.old) (E.seen err.new) }
+{
+    stopped_after(serial.into_history(), err)
 }

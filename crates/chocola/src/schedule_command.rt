@@ -1,8 +1,6 @@
-ghost use Rattle.std.specs.Prelude.{◌≡◌, IfOk, IfSome};
-ghost use Rattle.std.specs.Arc.{arc_value};
+ghost use Rattle.std.specs.Prelude.{◌≡◌, IfSome};
 ghost use Rattle.interleave_core.specs.Finishing.{NoneOut};
 ghost use Rattle.interleave_core.specs.Over.{IsOverWith};
-ghost use Rattle.serial_model.specs.Actors.{IsWithoutActors};
 ghost use Rattle.shared_world.specs.Later.{IsLater as IsLaterWorld};
 ghost use Rattle.shared_world.specs.Opening.{IsOpening};
 ghost use Rattle.command_phases.specs.Lines.{end_line};
@@ -14,6 +12,7 @@ ghost use Rattle.chocola.specs.Outside.{seen_before, seen_after};
 ghost use Rattle.chocola.specs.ProgramAnswers.{ProgramAnswers};
 ghost use Rattle.chocola.specs.ScheduleAnswers.{Reports, ScheduleAnswers};
 
+use crate::opening::opened;
 use crate::outside::Outside;
 use command_phases::{
     Outcome, Part, Ran, Scheduled, end_line, end_run, load_schedule, out_of_memory, stopped_after,
@@ -24,8 +23,7 @@ use interleave_core::World;
 use schedule_drive::drive;
 use schedule_text::Lines;
 use serial_model::{End, Limits, Trace};
-use std::alloc::{AllocError, Global};
-use std::sync::Arc;
+use std::alloc::Global;
 use value_core::Text;
 use world_io::{Files, Sink, write_all};
 
@@ -58,7 +56,6 @@ fn run_given<'a, F: Files, K: Sink, E: Sink>(
     trace: &Option<Text>,
     outside: Outside<'a, F, K, E>,
 ) -> Outcome
-    requires { IsWithoutActors given.program }
     ensures answers { ProgramAnswers (record { program = given.program; limits = limits }) trace.now
         (seen_before F.seen K.seen E.seen outside.entry)
         (seen_after F.seen K.seen E.seen outside.exit) result }
@@ -75,22 +72,6 @@ fn run_given<'a, F: Files, K: Sink, E: Sink>(
         Ok((world, program)) => run_world(alloc, world, &program, &lines, limits, trace, outside),
         Err(_) => out_of_memory(alloc, outside.err),
     }
-}
-
-/// The world of the program under these limits, before its first entry, beside the program.
-fn opened(
-    alloc: Global,
-    program: Program,
-    limits: Limits,
-) -> Result<(World, Arc<Program>), AllocError>
-    requires { IsWithoutActors program }
-    ensures opens { IfOk result (λ both. IsOpening (record { program = program; limits = limits }) both.0) }
-    ensures unclaimed { IfOk result (λ both. NoneOut both.0) }
-    ensures program { IfOk result (λ both. arc_value both.1 ≡ program) }
-{
-    let program = Arc::new(alloc, program)?;
-    let world = World::new(alloc, Arc::try_clone(&program)?, limits)?;
-    Ok((world, program))
 }
 
 /// Drives the world by the lines and ends the run, and writes what it printed, its trace, the report, and the line of its end.

@@ -9,9 +9,13 @@ use crate::outside::Outside;
 use crate::replay_command::replay_file;
 use crate::run_command::run_file;
 use crate::schedule_command::schedule_file;
+use crate::stress_command::stress_program;
 use command_phases::{Detail, Outcome, USAGE, out_of_memory, say_usage};
 use command_words::{Command, WordsNo, read_words};
 use std::alloc::Global;
+use std::sync::Wait;
+use std::thread::Threads;
+use worker_gate::Gate;
 use world_io::{Files, Sink};
 
 /// Does what the words of a command line say, and answers what became of it. The status of the outcome is one of these:
@@ -29,13 +33,16 @@ use world_io::{Files, Sink};
 /// | 8 differs | the replay differs from its trace, as the detail says |
 ///
 /// Want of memory is the one status that no cause has to be there for. Where the cause of another is there, that one
-/// comes, or 6.
-pub fn chocola<F: Files, K: Sink + Send, E: Sink>(
+/// comes, or 6. A run and a stress are shared by workers, each of which passes the gate between a claim and its return; for them
+/// it may wait.
+pub fn chocola<R: Threads + Wait + Sync, F: Files, K: Sink + Send, E: Sink, G: Gate + Sync>(
+    rt: &R,
     alloc: Global,
     words: &[String],
     files: &mut F,
     out: &mut K,
     err: &mut E,
+    gate: &G,
 ) -> Outcome
     ensures { let before = seen (F.seen files.old) (K.seen out.old) (E.seen err.old) in
         let after = seen (F.seen files.new) (K.seen out.new) (E.seen err.new) in
@@ -46,10 +53,11 @@ pub fn chocola<F: Files, K: Sink + Send, E: Sink>(
         Ok(
             Command::Run {
                 file,
+                workers,
                 limits,
                 trace,
             },
-        ) => run_file(alloc, &file, limits, &trace, outside),
+        ) => run_file(rt, alloc, &file, workers, limits, &trace, outside, gate),
         Ok(
             Command::Schedule {
                 file,
@@ -61,6 +69,13 @@ pub fn chocola<F: Files, K: Sink + Send, E: Sink>(
         Ok(Command::Replay { file, trace }) => { replay_file(alloc, &file, &trace, outside) }
         Ok(Command::Check { file }) => check_file(alloc, &file, outside),
         Ok(Command::Make { number, size }) => make_program(alloc, number, size, outside),
+        Ok(
+            Command::Stress {
+                number,
+                size,
+                workers,
+            },
+        ) => stress_program(rt, alloc, number, size, workers, outside, gate),
         Err(WordsNo::Usage) => {
             say_usage(outside.err);
             Outcome::without_run(alloc, USAGE, Detail::Nothing)

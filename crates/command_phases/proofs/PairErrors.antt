@@ -15,13 +15,13 @@ use Rattle.command_phases.specs.declared.outcome.Part.{Part}
 use Rattle.command_phases.specs.declared.load.LoadNo.{LoadNo}
 use Rattle.command_phases.specs.declared.load.LoadNo.TheVariants as load
 use Rattle.command_phases.specs.declared.load_pair.PairNo.{PairNo}
-use Rattle.command_phases.specs.declared.load_pair.PairNo.TheVariants.{Source, NotYet, NotRead, Refused}
+use Rattle.command_phases.specs.declared.load_pair.PairNo.TheVariants.{Source, NotRead, Refused}
 use Rattle.command_phases.specs.Fetch.{IsNotRead}
 use Rattle.command_phases.specs.Lines.{line_of, line_begun, pair_line}
 use Rattle.command_phases.specs.LineWritten.{SaysLine}
 use Rattle.command_phases.specs.Load.{IsLoaded, IsOutOfScope, Loads}
 use Rattle.command_phases.specs.LoadPair.{IsHeldAs, IsTextDue, RefusesPair}
-use Rattle.command_phases.specs.Outcome.{IsEnded, IsWithoutRun, not_yet, out_of_scope, pair_detail, pair_status, refused_as, refused_lines}
+use Rattle.command_phases.specs.Outcome.{IsEnded, IsWithoutRun, out_of_scope, pair_detail, pair_status, refused_as, refused_lines}
 use Rattle.command_phases.specs.Program.{IsProgramOf}
 use Rattle.command_phases.specs.Seen.{Seen, IsGiven, IsMissing, IsUnread, ReadFailed, ReadsWell, WriteFailed}
 use Rattle.command_phases.specs.SourceAnswers.{AreThere, IsRefusedSource, ReadsSource, Says}
@@ -47,7 +47,6 @@ second_there file second before there = there 1 [] (omega arith)
 -- the statuses of an error
 pub pair_not_ended : (error : PairNo) → IsEnded (pair_status error) → ⊥
 pair_not_ended (Source error) h = error_not_ended error h
-pair_not_ended NotYet h = four_not_ended h
 pair_not_ended NotRead h = three_not_ended h
 pair_not_ended (Refused kind line) h = four_not_ended h
 
@@ -56,19 +55,16 @@ pair_not_eight (Source load.NotRead) e = omega (arith, e)
 pair_not_eight (Source (load.Refused kind at)) e = omega (arith, e)
 pair_not_eight (Source (load.OutOfScope kind at)) e = omega (arith, e)
 pair_not_eight (Source load.Memory) e = omega (arith, e)
-pair_not_eight NotYet e = omega (arith, e)
 pair_not_eight NotRead e = omega (arith, e)
 pair_not_eight (Refused kind line) e = omega (arith, e)
 
 pub pair_is_without : (error : PairNo) → IsWithoutRun (pair_status error) ⊎ (pair_status error ≡ 6)
 pair_is_without (Source error) = error_status error
-pair_is_without NotYet = inl (inr refl)
 pair_is_without NotRead = inl (inl refl)
 pair_is_without (Refused kind line) = inl (inr refl)
 
 pub pair_no_detail : (part : Part) (error : PairNo) → pair_status error ≢ 4 → pair_detail part error ≡ Nothing
 pair_no_detail part (Source error) apart = error_detail error apart
-pair_no_detail part NotYet apart = absurd (apart refl)
 pair_no_detail part NotRead apart = refl
 pair_no_detail part (Refused kind line) apart = absurd (apart refl)
 
@@ -89,9 +85,9 @@ reads_pair file second before after outcome program spells loaded is reads write
 }
 
 -- where they give nothing to run
-module _ (covered : Table → Type 0) (refusal : List ℕ → LineKind → ℕ → Type 0) (part : Part) (file second : List ℕ) (before after : Seen) where
+module _ (refusal : List ℕ → LineKind → ℕ → Type 0) (part : Part) (file second : List ℕ) (before after : Seen) where
   abbrev Caused : PairNo → Type 0
-  Caused error = RefusesPair covered refusal file second before.files after.files error
+  Caused error = RefusesPair refusal file second before.files after.files error
 
   -- the cause on the side of the program
   source_loads : (error : LoadNo) → Caused (Source error) → Loads file before.files after.files (Err error)
@@ -103,13 +99,11 @@ module _ (covered : Table → Type 0) (refusal : List ℕ → LineKind → ℕ �
   -- the name that was not read
   abbrev unread_of : PairNo → List ℕ
   unread_of (Source error) = file
-  unread_of NotYet = file
   unread_of NotRead = second
   unread_of (Refused kind line) = file
 
   is_unread : (error : PairNo) → Caused error → pair_status error ≡ 3 → IsUnread (file ∷ second ∷ []) before after (unread_of error)
   is_unread (Source error) h three = unread_error file (second ∷ []) before after error (source_loads error h) three
-  is_unread NotYet h three = absurd (omega (arith, three))
   is_unread NotRead h three = elim h.1 [
     | inl failed ↦ inl ((1, omega arith, refl), failed.0, failed.1)
     | inr absent ↦ inr (absent.0, inr (h.0, inl (refl, absent.1)))
@@ -118,28 +112,23 @@ module _ (covered : Table → Type 0) (refusal : List ℕ → LineKind → ℕ �
 
   line_of-pair : (error : PairNo) (end : Option End) → line_of (unread_of error) (pair_status error) (pair_detail part error) end ≡ pair_line part file second error
   line_of-pair (Source error) end = line_of-load file error end
-  line_of-pair NotYet end = refl
   line_of-pair NotRead end = refl
   line_of-pair (Refused kind line) end = refl
 
   line_begun-pair : (error : PairNo) (end : Option End) → line_begun (unread_of error) (pair_status error) (pair_detail part error) end ≡ pair_line part file second error
   line_begun-pair (Source error) end = line_begun-load file error end
-  line_begun-pair NotYet end = refl
   line_begun-pair NotRead end = refl
   line_begun-pair (Refused kind line) end = refl
 
   -- what is refused
   pub pair_refused : (error : PairNo) → Caused error → pair_status error ≡ 4 → IsRefusedSource (told before.files.held file) (pair_detail part error)
-      ⊎ (((program : Table) × IsLoaded (told before.files.held file) program × (covered program → ⊥) × (pair_detail part error ≡ not_yet))
-      ⊎ ((kind : LineKind) × (line : ℕ) × IsTextDue refusal (told before.files.held second) kind line × (pair_detail part error ≡ refused_lines part kind line)))
+      ⊎ ((kind : LineKind) × (line : ℕ) × IsTextDue refusal (told before.files.held second) kind line × (pair_detail part error ≡ refused_lines part kind line))
   pair_refused (Source error) h four = inl (refuses file before.files after.files error (source_loads error h) four)
-  pair_refused NotYet h four = inr (inl (h.1.0, h.1.1, h.1.2, refl))
   pair_refused NotRead h four = absurd (omega (arith, four))
-  pair_refused (Refused kind line) h four = inr (inr (kind, line, h.1, refl))
+  pair_refused (Refused kind line) h four = inr (kind, line, h.1, refl)
 
   missing_file : (error : PairNo) → Caused error → IsMissing file before → (pair_status error ≡ 3) ⊎ (pair_status error ≡ 6)
   missing_file (Source error) h none = missing_error file before.files after.files error none (source_loads error h)
-  missing_file NotYet h none = absurd (missing_loaded (told before.files.held file) h.1.0 none h.1.1)
   missing_file NotRead h none = absurd (h.0 none)
   missing_file (Refused kind line) h none = absurd (missing_loaded (told before.files.held file) h.0.0 none h.0.1)
 
@@ -148,7 +137,6 @@ module _ (covered : Table → Type 0) (refusal : List ℕ → LineKind → ℕ �
   missing_second (Source (load.Refused kind at)) h none = absurd (h.0 none)
   missing_second (Source (load.OutOfScope kind at)) h none = absurd (h.0 none)
   missing_second (Source load.Memory) h none = inr refl
-  missing_second NotYet h none = absurd (h.0 none)
   missing_second NotRead h none = inl refl
   missing_second (Refused kind line) h none =
       let due : IsTextDue refusal (Some None) kind line = subst (λ x. IsTextDue refusal x kind line) none h.1 in absurd due
@@ -158,7 +146,6 @@ module _ (covered : Table → Type 0) (refusal : List ℕ → LineKind → ℕ �
 
   has_failed : (error : PairNo) → Caused error → ReadFailed before after → (pair_status error ≡ 3) ⊎ (pair_status error ≡ 6)
   has_failed (Source error) h failed = failed_error file before.files after.files error failed (source_loads error h)
-  has_failed NotYet h failed = absurd (failed h.2)
   has_failed NotRead h failed = inl refl
   has_failed (Refused kind line) h failed = absurd (failed h.2)
 
@@ -171,14 +158,12 @@ module _ (covered : Table → Type 0) (refusal : List ℕ → LineKind → ℕ �
     must_refuse : (error : PairNo) → Caused error → (kind : ReadKind) (at : Spot) → AreThere (file ∷ second ∷ []) before → IsRefused bytes kind at
         → ((pair_status error ≡ 4) × (pair_detail part error ≡ refused_as kind at)) ⊎ (pair_status error ≡ 6)
     must_refuse (Source error) h kind at there refused = error_refused file before.files after.files bytes is error kind at (source_loads error h) refused calm
-    must_refuse NotYet h kind at there refused = absurd (found_refused file before.files after.files bytes is h.1.0 kind at h.1.1 refused)
     must_refuse NotRead h kind at there refused = never_unread _ h.1 calm (second_there file second before there)
     must_refuse (Refused k line) h kind at there refused = absurd (found_refused file before.files after.files bytes is h.0.0 kind at h.0.1 refused)
 
     must_refuse_scope : (error : PairNo) → Caused error → (kind : ScopeKind) (at : Spot) → AreThere (file ∷ second ∷ []) before → IsOutOfScope bytes kind at
         → ((pair_status error ≡ 4) × (pair_detail part error ≡ out_of_scope kind at)) ⊎ (pair_status error ≡ 6)
     must_refuse_scope (Source error) h kind at there refused = error_out_of_scope file before.files after.files bytes is error kind at (source_loads error h) refused calm
-    must_refuse_scope NotYet h kind at there refused = absurd (found_out_of_scope file before.files after.files bytes is h.1.0 kind at h.1.1 refused)
     must_refuse_scope NotRead h kind at there refused = never_unread _ h.1 calm (second_there file second before there)
     must_refuse_scope (Refused k line) h kind at there refused = absurd (found_out_of_scope file before.files after.files bytes is h.0.0 kind at h.0.1 refused)
 
@@ -187,18 +172,10 @@ module _ (covered : Table → Type 0) (refusal : List ℕ → LineKind → ℕ �
       same_program : (found : Table) → IsLoaded (told before.files.held file) found → found ≡ program
       same_program found loaded = found_program file before.files after.files bytes is found program loaded source
 
-      pub pair_must_refuse_program : (error : PairNo) → Caused error → (covered program → ⊥) → AreThere (file ∷ second ∷ []) before
-          → ((pair_status error ≡ 4) × (pair_detail part error ≡ not_yet)) ⊎ (pair_status error ≡ 6)
-      pair_must_refuse_program (Source error) h never there = inr (error_checks file before.files after.files bytes is error program (source_loads error h) source calm)
-      pair_must_refuse_program NotYet h never there = inl (refl, refl)
-      pair_must_refuse_program NotRead h never there = never_unread _ h.1 calm (second_there file second before there)
-      pair_must_refuse_program (Refused k line) h never there = absurd (never (subst covered (same_program h.0.0 h.0.1) h.0.2))
-
-      -- which can be run so
-      module _ (covers : covered program) (text : List ℕ) (given : IsGiven second text before) where
+      -- beside a second file
+      module _ (text : List ℕ) (given : IsGiven second text before) where
         pub pair_completes : (error : PairNo) → Caused error → ((kind : LineKind) (line : ℕ) → refusal text kind line → ⊥) → pair_status error ≡ 6
         pair_completes (Source error) h spelled = error_checks file before.files after.files bytes is error program (source_loads error h) source calm
-        pair_completes NotYet h spelled = absurd (h.1.2 (subst covered (sym (same_program h.1.0 h.1.1)) covers))
         pair_completes NotRead h spelled = never_unread _ h.1 calm (given_there text given)
         pair_completes (Refused kind line) h spelled = absurd (spelled kind line (due_bytes refusal (told before.files.held second) text kind line given h.1))
 
@@ -206,7 +183,6 @@ module _ (covered : Table → Type 0) (refusal : List ℕ → LineKind → ℕ �
             → ((k : LineKind) (l : ℕ) → refusal text k l → (k ≡ kind) × (l ≡ line))
             → ((pair_status error ≡ 4) × (pair_detail part error ≡ refused_lines part kind line)) ⊎ (pair_status error ≡ 6)
         pair_must_refuse_lines (Source error) h kind line one = inr (error_checks file before.files after.files bytes is error program (source_loads error h) source calm)
-        pair_must_refuse_lines NotYet h kind line one = absurd (h.1.2 (subst covered (sym (same_program h.1.0 h.1.1)) covers))
         pair_must_refuse_lines NotRead h kind line one = never_unread _ h.1 calm (given_there text given)
         pair_must_refuse_lines (Refused k l) h kind line one =
             let same = one k l (due_bytes refusal (told before.files.held second) text k l given h.1) in

@@ -13,7 +13,7 @@ use Rattle.command_phases.specs.declared.fetch.Fetched.TheVariants.{Bytes, TooLo
 use Rattle.command_phases.specs.declared.load.LoadNo.TheVariants as load
 use Rattle.command_phases.specs.declared.load_pair.FetchedPair.{FetchedPair}
 use Rattle.command_phases.specs.declared.load_pair.PairNo.{PairNo}
-use Rattle.command_phases.specs.declared.load_pair.PairNo.TheVariants.{Source, NotYet, NotRead, Refused}
+use Rattle.command_phases.specs.declared.load_pair.PairNo.TheVariants.{Source, NotRead, Refused}
 use Rattle.command_phases.specs.Fetch.{Fetches, NoReadFailed}
 use Rattle.command_phases.specs.Load.{GivesFile}
 use Rattle.command_phases.specs.LoadPair.{FetchesPair, GivesPair, GivesSecond, HoldsText, IsHeldAs, IsTextDue, LoadsPair, RefusesPair, RefusesText, WhyNoText}
@@ -55,14 +55,14 @@ read_first name limit before mid after (Bytes bytes) quiet f = (f.0, f.1, quiet 
 read_first name limit before mid after TooLong quiet f = (f.0, quiet ∙ f.1)
 
 -- both, where both were read
-module _ (covered : Table → Type 0) (refusal : List ℕ → LineKind → ℕ → Type 0) (limit : ℕ)
+module _ (refusal : List ℕ → LineKind → ℕ → Type 0) (limit : ℕ)
     (over : (bytes : List ℕ) → ExceedsLimit (Some (Some bytes)) limit → refusal bytes line_kind.TooLong 1)
     {P : Type 0} (program : P → Table) (spells : P → List ℕ → Type 0) (file second : List ℕ) (before after : FilesSeen) where
   pub loads_pair : (pair : FetchedPair) (answer : Result P PairNo) → FetchesPair file second limit before after (Ok pair)
-      → GivesPair covered refusal program spells pair.source pair.second answer → LoadsPair covered refusal program spells file second before after answer
+      → GivesPair refusal program spells pair.source pair.second answer → LoadsPair refusal program spells file second before after answer
   loads_pair pair (Ok both) f h =
       let quiet = none_failed second limit before after pair.second f.1 in
-      ((loads_file file before after after pair.source (Ok (program both)) f.0 quiet h.0).0, h.1, holds_text refusal (spells both) limit second before after pair.second f.1 h.2, quiet)
+      ((loads_file file before after after pair.source (Ok (program both)) f.0 quiet h.0).0, holds_text refusal (spells both) limit second before after pair.second f.1 h.1, quiet)
   loads_pair pair (Err (Source load.NotRead)) f h = absurd (never pair.source h)
   loads_pair pair (Err (Source (load.Refused kind at))) f h =
       let quiet = none_failed second limit before after pair.second f.1 in
@@ -71,42 +71,36 @@ module _ (covered : Table → Type 0) (refusal : List ℕ → LineKind → ℕ �
       let quiet = none_failed second limit before after pair.second f.1 in
       (there second limit before after pair.second f.1, loads_file file before after after pair.source (Err (load.OutOfScope kind at)) f.0 quiet h)
   loads_pair pair (Err (Source load.Memory)) f h = tt
-  loads_pair pair (Err NotYet) f h =
-      let quiet = none_failed second limit before after pair.second f.1 in
-      (there second limit before after pair.second f.1, (h.0, (loads_file file before after after pair.source (Ok h.0) f.0 quiet h.1).0, h.2), quiet)
   loads_pair pair (Err NotRead) f h = absurd h
   loads_pair pair (Err (Refused kind line)) f h =
       let quiet = none_failed second limit before after pair.second f.1 in
-      ((h.0, (loads_file file before after after pair.source (Ok h.0) f.0 quiet h.1).0, h.2), refuses_text refusal limit over second before after pair.second kind line f.1 h.3, quiet)
+      ((h.0, (loads_file file before after after pair.source (Ok h.0) f.0 quiet h.1).0), refuses_text refusal limit over second before after pair.second kind line f.1 h.2, quiet)
 
   -- and where one was not
-  pub unread_pair : (error : PairNo) → FetchesPair file second limit before after (Err error) → RefusesPair covered refusal file second before after error
+  pub unread_pair : (error : PairNo) → FetchesPair file second limit before after (Err error) → RefusesPair refusal file second before after error
   unread_pair (Source load.NotRead) h = h
   unread_pair (Source load.Memory) h = tt
   unread_pair (Source (load.Refused kind at)) h = absurd h
   unread_pair (Source (load.OutOfScope kind at)) h = absurd h
-  unread_pair NotYet h = absurd h
   unread_pair NotRead h = h
   unread_pair (Refused kind line) h = absurd h
 
 -- what becomes of the second file, where the first gave this program
-module _ (covered : Table → Type 0) (refusal : List ℕ → LineKind → ℕ → Type 0) {P : Type 0} (program : P → Table) (spells : P → List ℕ → Type 0) where
-  pub no_second : (table : Table) (second : Fetched) (error : PairNo) → covered table → WhyNoText refusal second error → GivesSecond covered refusal program spells table second (Err error)
-  no_second table second (Source error) covers h = (covers, h)
-  no_second table second NotYet covers h = absurd h
-  no_second table second NotRead covers h = (covers, h)
-  no_second table second (Refused kind line) covers h = (covers, h)
+module _ (refusal : List ℕ → LineKind → ℕ → Type 0) {P : Type 0} (program : P → Table) (spells : P → List ℕ → Type 0) where
+  pub no_second : (table : Table) (second : Fetched) (error : PairNo) → WhyNoText refusal second error → GivesSecond refusal program spells table second (Err error)
+  no_second table second (Source error) h = h
+  no_second table second NotRead h = h
+  no_second table second (Refused kind line) h = h
 
-  pub gives_pair : (source second : Fetched) (table : Table) (answer : Result P PairNo) → GivesFile source (Ok table) → GivesSecond covered refusal program spells table second answer
-      → GivesPair covered refusal program spells source second answer
-  gives_pair source second table (Ok both) file h = (subst (λ p. GivesFile source (Ok p)) (sym h.0) file, subst covered (sym h.0) h.1, h.2)
-  gives_pair source second table (Err NotYet) file h = (table, file, h)
-  gives_pair source second table (Err (Refused kind line)) file h = (table, file, h.0, h.1)
+  pub gives_pair : (source second : Fetched) (table : Table) (answer : Result P PairNo) → GivesFile source (Ok table) → GivesSecond refusal program spells table second answer
+      → GivesPair refusal program spells source second answer
+  gives_pair source second table (Ok both) file h = (subst (λ p. GivesFile source (Ok p)) (sym h.0) file, h.1)
+  gives_pair source second table (Err (Refused kind line)) file h = (table, file, h)
   gives_pair source second table (Err (Source load.Memory)) file h = tt
-  gives_pair source second table (Err (Source load.NotRead)) file h = absurd h.1
-  gives_pair source second table (Err (Source (load.Refused kind at))) file h = absurd h.1
-  gives_pair source second table (Err (Source (load.OutOfScope kind at))) file h = absurd h.1
-  gives_pair source second table (Err NotRead) file h = absurd h.1
+  gives_pair source second table (Err (Source load.NotRead)) file h = absurd h
+  gives_pair source second table (Err (Source (load.Refused kind at))) file h = absurd h
+  gives_pair source second table (Err (Source (load.OutOfScope kind at))) file h = absurd h
+  gives_pair source second table (Err NotRead) file h = absurd h
 
 -- bytes over the limit are refused
 pub trace_too_long : (bytes : List ℕ) → ExceedsLimit (Some (Some bytes)) trace_limit → trace_refusal bytes line_kind.TooLong 1

@@ -13,7 +13,7 @@ use Rattle.command_phases.specs.declared.load.LoadNo.{LoadNo}
 use Rattle.command_phases.specs.declared.load.LoadNo.TheVariants as load
 use Rattle.command_phases.specs.declared.load_pair.PairNo.{PairNo}
 use Rattle.command_phases.specs.declared.load_pair.PairNo.TheVariants as pair
-use Rattle.command_phases.specs.Outcome.{refused_as, out_of_scope, not_yet, refused_lines}
+use Rattle.command_phases.specs.Outcome.{refused_as, out_of_scope, refused_lines}
 use Rattle.command_phases.specs.Status as exit
 
 abbrev pub one_after_another : List (List ℕ) → List ℕ
@@ -53,8 +53,7 @@ kind_name Scope kind =
     else (if kind == 4 then codes "BadForm"
     else (if kind == 5 then codes "EarlyGlobal"
     else (if kind == 6 then codes "TooManyNodes"
-    else (if kind == 7 then codes "NotYet"
-    else []))))))
+    else [])))))
 kind_name Trace kind = line_kind_name kind
 kind_name Schedule kind = line_kind_name kind
 
@@ -131,6 +130,5 @@ load_line name load.Memory = memory_line
 -- and so where the files of these names give nothing to run; the second is read as this part
 abbrev pub pair_line : Part → List ℕ → List ℕ → PairNo → List ℕ
 pair_line part file second (pair.Source error) = load_line file error
-pair_line part file second pair.NotYet = detail_line not_yet
 pair_line part file second pair.NotRead = cannot_read_line second
 pair_line part file second (pair.Refused kind line) = detail_line (refused_lines part kind line)

@@ -2,7 +2,6 @@
 use Rattle.std.specs.Prelude.{◌≡◌, ◌≢◌, ℕ, List, Option, None, Some, Result, Ok, Err, IfSome, IsSomeAnd}
 use Rattle.core_syntax.specs.Table.{Table}
 use Rattle.schedule_text.specs.Schedule.{IsTextOfSchedule, schedule_refusal}
-use Rattle.serial_model.specs.Actors.{IsWithoutActors}
 use Rattle.serial_model.specs.Trace.{IsTextOfTrace, trace_refusal}
 use Rattle.serial_model.specs.declared.trace.LineKind.{LineKind}
 use Rattle.serial_model.specs.declared.trace.LineKind.TheVariants as line_kind
@@ -17,7 +16,7 @@ use Rattle.command_phases.specs.declared.load.LoadNo.TheVariants as load
 use Rattle.command_phases.specs.declared.load_pair.FetchedPair.{FetchedPair}
 use Rattle.command_phases.specs.declared.load_pair.Given.{Given}
 use Rattle.command_phases.specs.declared.load_pair.PairNo.{PairNo}
-use Rattle.command_phases.specs.declared.load_pair.PairNo.TheVariants.{Source, NotYet, NotRead, Refused}
+use Rattle.command_phases.specs.declared.load_pair.PairNo.TheVariants.{Source, NotRead, Refused}
 use Rattle.command_phases.specs.declared.load_pair.Scheduled.{Scheduled}
 
 -- the bytes held are refused as a trace, with that kind at that line, where it is told what is held
@@ -31,10 +30,6 @@ IsScheduleDue found kind line = IfSome found (λ held. IsSomeAnd held (λ bytes.
 -- the bytes held are refused as such a text, with that kind at that line, where it is told what is held
 abbrev pub IsTextDue : (List ℕ → LineKind → ℕ → Type 0) → Option (Option (List ℕ)) → LineKind → ℕ → Type 0
 IsTextDue refusal found kind line = IfSome found (λ held. IsSomeAnd held (λ bytes. refusal bytes kind line))
-
--- the program has actors: the world can't run it yet
-abbrev pub HasActors : Table → Type 0
-HasActors program = IsWithoutActors program → ⊥
 
 -- the bytes held are such a text
 pub record IsHeldAs (spells : List ℕ → Type 0) (found : Option (Option (List ℕ))) : Type 0 where
@@ -72,64 +67,56 @@ module _ {T : Type 0} (spells : T → List ℕ → Type 0) (refusal : List ℕ �
   ReadsText file (Ok text) = HoldsText (spells text) file
   ReadsText file (Err error) = WhyNoText refusal file error
 
--- the programs that can be run so, and the bytes that are refused as the second file
-module _ (covered : Table → Type 0) (refusal : List ℕ → LineKind → ℕ → Type 0) where
+-- the bytes that are refused as the second file
+module _ (refusal : List ℕ → LineKind → ℕ → Type 0) where
   -- The cause of each refusal: both files are read, in this order, before one is checked, and the program is checked first.
   abbrev pub RefusesPair : List ℕ → List ℕ → FilesSeen → FilesSeen → PairNo → Type 0
   RefusesPair file second before after (Source load.NotRead) = IsNotRead file before after
   RefusesPair file second before after (Source load.Memory) = Unit {0}
   RefusesPair file second before after (Source error) = (told before.held second ≢ Some None) × Loads file before after (Err error)
-  RefusesPair file second before after NotYet =
-      (told before.held second ≢ Some None) × ((program : Table) × IsLoaded (told before.held file) program × (covered program → ⊥)) × NoReadFailed before after
   RefusesPair file second before after NotRead = (told before.held file ≢ Some None) × IsNotRead second before after
   RefusesPair file second before after (Refused kind line) =
-      ((program : Table) × IsLoaded (told before.held file) program × covered program)
+      ((program : Table) × IsLoaded (told before.held file) program)
       × IsTextDue refusal (told before.held second) kind line × NoReadFailed before after
 
   -- what is loaded: a program, and a text behind it
   module _ {P : Type 0} (program : P → Table) (spells : P → List ℕ → Type 0) where
     -- what becomes of the second file, where the first gave this program
     abbrev pub GivesSecond : Table → Fetched → Result P PairNo → Type 0
-    GivesSecond table second (Ok both) = (program both ≡ table) × covered table × HoldsText (spells both) second
-    GivesSecond table second (Err NotYet) = covered table → ⊥
-    GivesSecond table second (Err error) = covered table × WhyNoText refusal second error
+    GivesSecond table second (Ok both) = (program both ≡ table) × HoldsText (spells both) second
+    GivesSecond table second (Err error) = WhyNoText refusal second error
 
     -- what becomes of both files where they were read
     abbrev pub GivesPair : Fetched → Fetched → Result P PairNo → Type 0
-    GivesPair source second (Ok both) = GivesFile source (Ok (program both)) × covered (program both) × HoldsText (spells both) second
+    GivesPair source second (Ok both) = GivesFile source (Ok (program both)) × HoldsText (spells both) second
     GivesPair source second (Err (Source load.Memory)) = Unit {0}
     GivesPair source second (Err (Source error)) = GivesFile source (Err error)
-    GivesPair source second (Err NotYet) = (table : Table) × GivesFile source (Ok table) × (covered table → ⊥)
-    GivesPair source second (Err (Refused kind line)) = (table : Table) × GivesFile source (Ok table) × covered table × RefusesText refusal second kind line
+    GivesPair source second (Err (Refused kind line)) = (table : Table) × GivesFile source (Ok table) × RefusesText refusal second kind line
     GivesPair source second (Err NotRead) = ⊥
 
     -- the cause of each answer to the reading of both
     abbrev pub LoadsPair : List ℕ → List ℕ → FilesSeen → FilesSeen → Result P PairNo → Type 0
     LoadsPair file second before after (Ok both) =
-        IsLoaded (told before.held file) (program both) × covered (program both) × IsHeldAs (spells both) (told before.held second) × NoReadFailed before after
+        IsLoaded (told before.held file) (program both) × IsHeldAs (spells both) (told before.held second) × NoReadFailed before after
     LoadsPair file second before after (Err error) = RefusesPair file second before after error
-
--- each program can be replayed
-abbrev pub IsAny : Table → Type 0
-IsAny program = Unit {0}
 
 -- of a program and of a trace
 abbrev pub GivesTrace : Table → Fetched → Result Given PairNo → Type 0
-GivesTrace program text answer = GivesSecond IsAny trace_refusal (λ (given : Given). given.program) (λ (given : Given). IsTextOfTrace given.trace) program text answer
+GivesTrace program text answer = GivesSecond trace_refusal (λ (given : Given). given.program) (λ (given : Given). IsTextOfTrace given.trace) program text answer
 
 abbrev pub GivesReplay : Fetched → Fetched → Result Given PairNo → Type 0
-GivesReplay source text answer = GivesPair IsAny trace_refusal (λ (given : Given). given.program) (λ (given : Given). IsTextOfTrace given.trace) source text answer
+GivesReplay source text answer = GivesPair trace_refusal (λ (given : Given). given.program) (λ (given : Given). IsTextOfTrace given.trace) source text answer
 
 abbrev pub LoadsReplay : List ℕ → List ℕ → FilesSeen → FilesSeen → Result Given PairNo → Type 0
-LoadsReplay file trace before after answer = LoadsPair IsAny trace_refusal (λ (given : Given). given.program) (λ (given : Given). IsTextOfTrace given.trace) file trace before after answer
+LoadsReplay file trace before after answer = LoadsPair trace_refusal (λ (given : Given). given.program) (λ (given : Given). IsTextOfTrace given.trace) file trace before after answer
 
 -- of a program and of a schedule
 abbrev pub GivesLines : Table → Fetched → Result Scheduled PairNo → Type 0
-GivesLines program text answer = GivesSecond IsWithoutActors schedule_refusal (λ (given : Scheduled). given.program) (λ (given : Scheduled). IsTextOfSchedule given.lines) program text answer
+GivesLines program text answer = GivesSecond schedule_refusal (λ (given : Scheduled). given.program) (λ (given : Scheduled). IsTextOfSchedule given.lines) program text answer
 
 abbrev pub GivesSchedule : Fetched → Fetched → Result Scheduled PairNo → Type 0
-GivesSchedule source text answer = GivesPair IsWithoutActors schedule_refusal (λ (given : Scheduled). given.program) (λ (given : Scheduled). IsTextOfSchedule given.lines) source text answer
+GivesSchedule source text answer = GivesPair schedule_refusal (λ (given : Scheduled). given.program) (λ (given : Scheduled). IsTextOfSchedule given.lines) source text answer
 
 abbrev pub LoadsSchedule : List ℕ → List ℕ → FilesSeen → FilesSeen → Result Scheduled PairNo → Type 0
 LoadsSchedule file schedule before after answer =
-    LoadsPair IsWithoutActors schedule_refusal (λ (given : Scheduled). given.program) (λ (given : Scheduled). IsTextOfSchedule given.lines) file schedule before after answer
+    LoadsPair schedule_refusal (λ (given : Scheduled). given.program) (λ (given : Scheduled). IsTextOfSchedule given.lines) file schedule before after answer

@@ -55,10 +55,6 @@ refused_as kind at = Refused Source (text.kind_number kind) at.line at.column
 abbrev pub out_of_scope : ScopeKind → Spot → Detail
 out_of_scope kind at = Refused Scope (scope.kind_number kind) at.line at.column
 
--- the detail of a program that a schedule can't run yet
-abbrev pub not_yet : Detail
-not_yet = Refused Scope 7 1 1
-
 -- the detail of a text that is refused as this part, and is read line by line
 abbrev pub refused_lines : Part → LineKind → ℕ → Detail
 refused_lines part kind line = Refused part (trace.kind_number kind) line 1
@@ -107,13 +103,11 @@ load_detail load.Memory = Nothing
 -- and so where two files give nothing to run; the second is read as this part
 abbrev pub pair_status : PairNo → ℕ
 pair_status (pair.Source error) = load_status error
-pair_status pair.NotYet = exit.refused
 pair_status pair.NotRead = exit.not_read
 pair_status (pair.Refused kind line) = exit.refused
 
 abbrev pub pair_detail : Part → PairNo → Detail
 pair_detail part (pair.Source error) = load_detail error
-pair_detail part pair.NotYet = not_yet
 pair_detail part pair.NotRead = Nothing
 pair_detail part (pair.Refused kind line) = refused_lines part kind line
 

@@ -16,7 +16,7 @@ mod without;
 pub use ending::{Ran, end_run, say_differs, say_end};
 pub use ends::is_same_end;
 pub use lines::{end_line, say_usage};
-pub use load::{LoadNo, load_program};
+pub use load::{LoadNo, load_program, program_in};
 pub use load_pair::{Given, PairNo, Scheduled, load_replay, load_schedule};
 pub use outcome::{Detail, Outcome, Part};
 pub use status::{DIFFERS, DONE, FAULT, NO_MEMORY, NOT_READ, NOT_WRITTEN, REFUSED, SPENT, USAGE};

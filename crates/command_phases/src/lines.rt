@@ -286,7 +286,6 @@ fn scope_kind_name(kind: u8) -> &'static str
         4 => "BadForm",
         5 => "EarlyGlobal",
         6 => "TooManyNodes",
-        7 => "NotYet",
         _ => "",
     }
 }

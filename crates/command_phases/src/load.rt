@@ -52,8 +52,8 @@ pub(crate) fn program_of(alloc: Global, file: &Fetched) -> Result<Program, LoadN
     }
 }
 
-/// The program of the source with these bytes.
-fn program_in(alloc: Global, bytes: &[u8]) -> Result<Program, LoadNo>
+/// The program of the source with these bytes. It reads no file, so `NotRead` never comes.
+pub fn program_in(alloc: Global, bytes: &[u8]) -> Result<Program, LoadNo>
     ensures { GivesText bytes.now result }
 {
     match read(alloc, bytes) {

@@ -6,7 +6,6 @@ ghost use Rattle.command_phases.specs.LoadPair.{FetchesPair, GivesLines, GivesRe
 use crate::fetch::{FetchNo, Fetched, fetch};
 use crate::load::{LoadNo, program_of};
 use core_syntax::Program;
-use program_coverage::is_without_actors;
 use schedule_text::{LineNo, Lines, SCHEDULE_LIMIT, read_schedule};
 use serial_model::{LineKind, Trace};
 use sexpr_reader::SOURCE_LIMIT;
@@ -36,9 +35,6 @@ pub enum PairNo {
     /// The file of the program gives none. Want of memory for the second file is told here too.
     #[error("the file gives no program")]
     Source(LoadNo),
-    /// The program has actors, which no schedule can run yet.
-    #[error("the program can't be run by a schedule yet")]
-    NotYet,
     /// Nothing is held under the name of the second file, or the files counted a fault.
     #[error("the second file was not read")]
     NotRead,
@@ -164,13 +160,10 @@ fn schedule_of(alloc: Global, source: &Fetched, text: &Fetched) -> Result<Schedu
     }
 }
 
-/// The program with the lines of the schedule's file, where a schedule can run it.
+/// The program with the lines of the schedule's file.
 fn with_lines(alloc: Global, program: Program, text: &Fetched) -> Result<Scheduled, PairNo>
     ensures { GivesLines program text.now result }
 {
-    if !is_without_actors(&program) {
-        return Err(PairNo::NotYet);
-    }
     match lines_of(alloc, text) {
         Ok(lines) => Ok(Scheduled { program, lines }),
         Err(error) => Err(error),

@@ -51,11 +51,8 @@ pub enum Part {
     Schedule,
 }
 
-/// The number of the refusal of a program that a schedule can't run yet.
-const NOT_YET: u8 = 7;
-
 impl Detail {
-    ghost use Rattle.command_phases.specs.Outcome.{refused_as, out_of_scope, not_yet, refused_lines};
+    ghost use Rattle.command_phases.specs.Outcome.{refused_as, out_of_scope, refused_lines};
     ghost use Rattle.command_phases.specs.declared.outcome.Detail.TheVariants.{Refused};
 
     /// The source is refused with that kind at that place.
@@ -80,18 +77,6 @@ impl Detail {
             kind,
             line: u64::from(at.line()),
             column: u64::from(at.column()),
-        }
-    }
-
-    /// The program is not one that a schedule can run yet.
-    pub fn not_yet() -> Self
-        ensures { result ≡ not_yet }
-    {
-        Detail::Refused {
-            part: Part::Scope,
-            kind: NOT_YET,
-            line: 1,
-            column: 1,
         }
     }
 

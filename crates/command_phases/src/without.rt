@@ -42,7 +42,6 @@ pub fn without_pair<E: Sink>(
 {
     match error {
         PairNo::Source(error) => without_program(alloc, error, file, err),
-        PairNo::NotYet => refuse(alloc, Detail::not_yet(), err),
         PairNo::NotRead => not_read(alloc, second, err),
         PairNo::Refused { kind, line } => {
             refuse(alloc, Detail::refused_lines(part, kind, line), err)

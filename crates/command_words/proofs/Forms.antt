@@ -13,7 +13,7 @@ use Rattle.clap.specs.Faults.{check_fault, default_fault, defaults_fault, given_
 use Rattle.clap.specs.declared.error.ErrorKind.TheVariants.{MissingRequiredArgument}
 use Rattle.std.proofs.lemmas.Option.{none-some}
 use Rattle.command_words.specs.Reading.{Word, Form, is_given}
-use Rattle.command_words.specs.Said.{run_form, schedule_form, replay_form, check_form, make_form}
+use Rattle.command_words.specs.Said.{run_form, schedule_form, replay_form, check_form, make_form, stress_form}
 use Rattle.command_words.proofs.Rules.{built_form, option_rule, place_rule, places_from, row_of, rows_of, rules_of}
 use Rattle.command_words.proofs.Turns.{Known}
 
@@ -54,7 +54,7 @@ pub record IsSound (form : Form) : Type 0 where
 pub run_sound : IsSound run_form
 run_sound = record {
   places = (refl, omega arith, (None, Some 1, true, refl), refl);
-  options = ((Some (codes "fuel"), None, false, refl), ((Some (codes "units"), None, false, refl), ((Some (codes "trace"), None, false, refl), tt)));
+  options = ((Some (codes "workers"), None, false, refl), ((Some (codes "fuel"), None, false, refl), ((Some (codes "units"), None, false, refl), ((Some (codes "trace"), None, false, refl), tt))));
   named = refl;
 }
 
@@ -79,6 +79,13 @@ pub make_sound : IsSound make_form
 make_sound = record {
   places = (refl, omega arith, (None, Some 1, true, refl), (refl, omega arith, (None, Some 2, true, refl), refl));
   options = tt;
+  named = refl;
+}
+
+pub stress_sound : IsSound stress_form
+stress_sound = record {
+  places = (refl, omega arith, (None, Some 1, true, refl), (refl, omega arith, (None, Some 2, true, refl), refl));
+  options = ((Some (codes "workers"), None, false, refl), tt);
   named = refl;
 }
 

@@ -10,11 +10,11 @@ use Rattle.std.proofs.lemmas.Bool.Decides.{nat_tests}
 use Rattle.std.proofs.lemmas.Option.{none-some}
 use Rattle.command_words.specs.declared.command.Command.{Command}
 use Rattle.command_words.specs.Reading.{Word, Form, Reading, dashed, first_reading, give, is_equals, is_fit, is_given, option_of, read_by, read_in_place, read_unasked, read_word, read_words, value_of, whole}
-use Rattle.command_words.specs.Said.{check_form, check_of, command_of, make_form, make_of, replay_form, replay_of, run_form, run_of, said_by, schedule_form, schedule_of}
+use Rattle.command_words.specs.Said.{check_form, check_of, command_of, make_form, make_of, replay_form, replay_of, run_form, run_of, said_by, schedule_form, schedule_of, stress_form, stress_of}
 use Rattle.command_words.specs.Parser.{behind_dashes, is_readable, is_readable_option}
 use Rattle.command_words.proofs.NumberLemmas.{both}
 use Rattle.command_words.proofs.Fitting.{after_dashes, find_none, option_of_dashed}
-use Rattle.command_words.proofs.Forms.{IsSound, check_sound, make_sound, replay_sound, run_sound, schedule_sound}
+use Rattle.command_words.proofs.Forms.{IsSound, check_sound, make_sound, replay_sound, run_sound, schedule_sound, stress_sound}
 
 eqb_suc : (n : ℕ) → (suc n == 0) ≡ false
 eqb_suc n = grind (arith, nat_tests)
@@ -111,27 +111,32 @@ same_bytes (x ∷ xs) (y ∷ ys) same =
     let parts = both (x == y) (bytes_eq xs ys) same in
     ap₂ (λ a b. a ∷ b) (eqb-true x y parts.0) (same_bytes xs ys parts.1)
 
-not_named : (title name : Word) → is_readable title ≡ true → is_readable name ≡ false → bytes_eq title name ≡ false
-not_named title name readable unreadable = go (bytes_eq title name) refl
+-- a word that is not that one
+pub other_name : (title name : Word) → (name ≡ title → ⊥) → bytes_eq title name ≡ false
+other_name title name apart = go (bytes_eq title name) refl
   where
     go : (b : Bool) → bytes_eq title name ≡ b → b ≡ false
-    go true same = absurd (true≢false (sym readable ∙ ap is_readable (same_bytes title name same) ∙ unreadable))
+    go true same = absurd (apart (sym (same_bytes title name same)))
     go false same = refl
+
+not_named : (title name : Word) → is_readable title ≡ true → is_readable name ≡ false → bytes_eq title name ≡ false
+not_named title name readable unreadable = other_name title name (λ same. true≢false (sym readable ∙ ap is_readable (sym same) ∙ unreadable))
 
 -- the rules refuse words of which one is not passed to the parser
 pub unreadable_refused : (words : List Word) → list_all is_readable words ≡ false → command_of words ≡ None
 unreadable_refused [] unreadable = absurd (true≢false unreadable)
 unreadable_refused (name ∷ words) unreadable = go (and_cases (is_readable name) (list_all is_readable words) unreadable)
   where
-    by : (is_run is_schedule is_replay is_check is_make : Bool) → list_all is_readable words ≡ false
-        → (if is_run then said_by run_form run_of words else if is_schedule then said_by schedule_form schedule_of words else if is_replay then said_by replay_form replay_of words else if is_check then said_by check_form check_of words else if is_make then said_by make_form make_of words else None) ≡ None
-    by true is_schedule is_replay is_check is_make there = unreadable_said run_form run_sound run_of words there
-    by false true is_replay is_check is_make there = unreadable_said schedule_form schedule_sound schedule_of words there
-    by false false true is_check is_make there = unreadable_said replay_form replay_sound replay_of words there
-    by false false false true is_make there = unreadable_said check_form check_sound check_of words there
-    by false false false false true there = unreadable_said make_form make_sound make_of words there
-    by false false false false false there = refl
+    by : (is_run is_schedule is_replay is_check is_make is_stress : Bool) → list_all is_readable words ≡ false
+        → (if is_run then said_by run_form run_of words else if is_schedule then said_by schedule_form schedule_of words else if is_replay then said_by replay_form replay_of words else if is_check then said_by check_form check_of words else if is_make then said_by make_form make_of words else if is_stress then said_by stress_form stress_of words else None) ≡ None
+    by true is_schedule is_replay is_check is_make is_stress there = unreadable_said run_form run_sound run_of words there
+    by false true is_replay is_check is_make is_stress there = unreadable_said schedule_form schedule_sound schedule_of words there
+    by false false true is_check is_make is_stress there = unreadable_said replay_form replay_sound replay_of words there
+    by false false false true is_make is_stress there = unreadable_said check_form check_sound check_of words there
+    by false false false false true is_stress there = unreadable_said make_form make_sound make_of words there
+    by false false false false false true there = unreadable_said stress_form stress_sound stress_of words there
+    by false false false false false false there = refl
 
     go : (is_readable name ≡ false) ⊎ (list_all is_readable words ≡ false) → command_of (name ∷ words) ≡ None
-    go (inl here) = rw (not_named (codes "run") name refl here) (rw (not_named (codes "schedule") name refl here) (rw (not_named (codes "replay") name refl here) (rw (not_named (codes "check") name refl here) (rw (not_named (codes "make") name refl here) refl))))
-    go (inr there) = by (bytes_eq (codes "run") name) (bytes_eq (codes "schedule") name) (bytes_eq (codes "replay") name) (bytes_eq (codes "check") name) (bytes_eq (codes "make") name) there
+    go (inl here) = rw (not_named (codes "run") name refl here) (rw (not_named (codes "schedule") name refl here) (rw (not_named (codes "replay") name refl here) (rw (not_named (codes "check") name refl here) (rw (not_named (codes "make") name refl here) (rw (not_named (codes "stress") name refl here) refl)))))
+    go (inr there) = by (bytes_eq (codes "run") name) (bytes_eq (codes "schedule") name) (bytes_eq (codes "replay") name) (bytes_eq (codes "check") name) (bytes_eq (codes "make") name) (bytes_eq (codes "stress") name) there

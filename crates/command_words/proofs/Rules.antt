@@ -12,7 +12,7 @@ use Rattle.clap.specs.declared.error.ErrorKind.TheVariants.{ArgumentConflict}
 use Rattle.std.proofs.lemmas.Bool.{or_parts}
 use Rattle.std.proofs.lemmas.List.{append-nil, map-append}
 use Rattle.command_words.specs.Reading.{Word, Form, is_given}
-use Rattle.command_words.specs.Said.{run_form, schedule_form, replay_form, check_form, make_form}
+use Rattle.command_words.specs.Said.{run_form, schedule_form, replay_form, check_form, make_form, stress_form}
 use Rattle.command_words.specs.Parser.{told}
 
 abbrev pub plain_rule : Word → Option Text → Option ℕ → Bool → Rule
@@ -70,7 +70,7 @@ built_form name form = record {
   is_built = true;
 }
 
-pub built_run : (built told).subs ≡ built_form (codes "run") run_form ∷ built_form (codes "schedule") schedule_form ∷ built_form (codes "replay") replay_form ∷ built_form (codes "check") check_form ∷ built_form (codes "make") make_form ∷ []
+pub built_run : (built told).subs ≡ built_form (codes "run") run_form ∷ built_form (codes "schedule") schedule_form ∷ built_form (codes "replay") replay_form ∷ built_form (codes "check") check_form ∷ built_form (codes "make") make_form ∷ built_form (codes "stress") stress_form ∷ []
 built_run = refl
 
 -- ---- what was given, as the parser keeps it

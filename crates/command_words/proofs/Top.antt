@@ -11,13 +11,13 @@ use Rattle.clap.specs.declared.error.ErrorKind.TheVariants.{DisplayHelp, Invalid
 use Rattle.clap.proofs.WalkLemmas.{walk_stopped}
 use Rattle.command_words.specs.declared.command.Command.{Command}
 use Rattle.command_words.specs.Reading.{Word, Form, given_of, is_fit, value_of}
-use Rattle.command_words.specs.Said.{check_form, check_of, command_of, make_form, make_of, replay_form, replay_of, run_form, run_of, said_by, schedule_form, schedule_of}
+use Rattle.command_words.specs.Said.{check_form, check_of, command_of, make_form, make_of, replay_form, replay_of, run_form, run_of, said_by, schedule_form, schedule_of, stress_form, stress_of}
 use Rattle.command_words.specs.Parser.{command_named, is_readable, told}
 use Rattle.command_words.proofs.NumberLemmas.{both}
 use Rattle.command_words.proofs.Fitting.{Looks, readable_cases}
 use Rattle.command_words.proofs.Rules.{built_form, row_of, rows_of, rules_of}
 use Rattle.command_words.proofs.Turns.{Fails, dashed_fault_among, fails_as, first_fails, fit_met_among, fit_passes_among}
-use Rattle.command_words.proofs.Forms.{IsSound, check_sound, make_sound, replay_sound, run_sound, schedule_sound}
+use Rattle.command_words.proofs.Forms.{IsSound, check_sound, make_sound, replay_sound, run_sound, schedule_sound, stress_sound}
 use Rattle.command_words.proofs.Level.{Agrees, level}
 
 -- what the parser makes of the words is what they say
@@ -124,43 +124,47 @@ module _ (name : Word) (words : List Word) (readable : list_all is_readable (nam
       go (Some given) is h = taken title given (faulty ∙ h.0) (sub ∙ ap (λ rows. Some (title, rows)) h.1)
           (said ∙ ap (λ o. option_and_then (λ g. made (value_of g)) o) is ∙ same (value_of given))
 
-  abbrev met_by : Bool → Bool → Bool → Bool → Bool → Option Word
-  met_by is_run is_schedule is_replay is_check is_make = option_map (λ (p : Text × List Text). p.0)
-      (cond (is_run || false) (Some (codes "run", [])) (cond (is_schedule || false) (Some (codes "schedule", [])) (cond (is_replay || false) (Some (codes "replay", [])) (cond (is_check || false) (Some (codes "check", [])) (cond (is_make || false) (Some (codes "make", [])) None)))))
+  abbrev met_by : Bool → Bool → Bool → Bool → Bool → Bool → Option Word
+  met_by is_run is_schedule is_replay is_check is_make is_stress = option_map (λ (p : Text × List Text). p.0)
+      (cond (is_run || false) (Some (codes "run", [])) (cond (is_schedule || false) (Some (codes "schedule", [])) (cond (is_replay || false) (Some (codes "replay", [])) (cond (is_check || false) (Some (codes "check", [])) (cond (is_make || false) (Some (codes "make", [])) (cond (is_stress || false) (Some (codes "stress", [])) None))))))
 
-  abbrev said_as : Bool → Bool → Bool → Bool → Bool → Option Command
-  said_as is_run is_schedule is_replay is_check is_make =
+  abbrev said_as : Bool → Bool → Bool → Bool → Bool → Bool → Option Command
+  said_as is_run is_schedule is_replay is_check is_make is_stress =
       if is_run then said_by run_form run_of words
       else if is_schedule then said_by schedule_form schedule_of words
       else if is_replay then said_by replay_form replay_of words
       else if is_check then said_by check_form check_of words
       else if is_make then said_by make_form make_of words
+      else if is_stress then said_by stress_form stress_of words
       else None
 
-  by_name : (is_run is_schedule is_replay is_check is_make : Bool) → subcommand_met names idle name ≡ met_by is_run is_schedule is_replay is_check is_make
-      → command_of (name ∷ words) ≡ said_as is_run is_schedule is_replay is_check is_make
+  by_name : (is_run is_schedule is_replay is_check is_make is_stress : Bool) → subcommand_met names idle name ≡ met_by is_run is_schedule is_replay is_check is_make is_stress
+      → command_of (name ∷ words) ≡ said_as is_run is_schedule is_replay is_check is_make is_stress
       → Parses (name ∷ words)
   unfolding defaults_fault
-  by_name true is_schedule is_replay is_check is_make met said =
+  by_name true is_schedule is_replay is_check is_make is_stress met said =
       of_command (codes "run") run_form run_of run_sound
       (fault_after name (codes "run") words met refl ∙ or_nothing _) (subcommand_after name (codes "run") words met refl) said (λ given. refl)
-  by_name false true is_replay is_check is_make met said =
+  by_name false true is_replay is_check is_make is_stress met said =
       of_command (codes "schedule") schedule_form schedule_of schedule_sound
       (fault_after name (codes "schedule") words met refl ∙ or_nothing _) (subcommand_after name (codes "schedule") words met refl) said (λ given. refl)
-  by_name false false true is_check is_make met said =
+  by_name false false true is_check is_make is_stress met said =
       of_command (codes "replay") replay_form replay_of replay_sound
       (fault_after name (codes "replay") words met refl ∙ or_nothing _) (subcommand_after name (codes "replay") words met refl) said (λ given. refl)
-  by_name false false false true is_make met said =
+  by_name false false false true is_make is_stress met said =
       of_command (codes "check") check_form check_of check_sound
       (fault_after name (codes "check") words met refl ∙ or_nothing _) (subcommand_after name (codes "check") words met refl) said (λ given. refl)
-  by_name false false false false true met said =
+  by_name false false false false true is_stress met said =
       of_command (codes "make") make_form make_of make_sound
       (fault_after name (codes "make") words met refl ∙ or_nothing _) (subcommand_after name (codes "make") words met refl) said (λ given. refl)
-  by_name false false false false false met said =
+  by_name false false false false false true met said =
+      of_command (codes "stress") stress_form stress_of stress_sound
+      (fault_after name (codes "stress") words met refl ∙ or_nothing _) (subcommand_after name (codes "stress") words met refl) said (λ given. refl)
+  by_name false false false false false false met said =
       refused (unknown_fails name words met (both (is_readable name) (list_all is_readable words) readable).0) said
 
   some_words : Parses (name ∷ words)
-  some_words = by_name (bytes_eq (codes "run") name) (bytes_eq (codes "schedule") name) (bytes_eq (codes "replay") name) (bytes_eq (codes "check") name) (bytes_eq (codes "make") name) refl refl
+  some_words = by_name (bytes_eq (codes "run") name) (bytes_eq (codes "schedule") name) (bytes_eq (codes "replay") name) (bytes_eq (codes "check") name) (bytes_eq (codes "make") name) (bytes_eq (codes "stress") name) refl refl
 
 no_words : Fails (fault_of told [])
 unfolding walk_fault defaults_fault

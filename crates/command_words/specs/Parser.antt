@@ -8,7 +8,7 @@ use Rattle.clap.specs.Simple.{on_top}
 use Rattle.std.specs.Str.{bytes_eq}
 use Rattle.clap.specs.Walk.{Row, first_of, is_empty}
 use Rattle.command_words.specs.Reading.{Word, Form, is_fit, is_equals}
-use Rattle.command_words.specs.Said.{run_form, run_of, schedule_form, schedule_of, replay_form, replay_of, check_form, check_of, make_form, make_of}
+use Rattle.command_words.specs.Said.{run_form, run_of, schedule_form, schedule_of, replay_form, replay_of, check_form, check_of, make_form, make_of, stress_form, stress_of}
 use Rattle.command_words.specs.declared.command.Command.{Command}
 
 -- a place, which has to have its word
@@ -41,12 +41,13 @@ with_settings app =
 -- all commands
 abbrev pub told : App
 told =
-    with_subcommand (with_subcommand (with_subcommand (with_subcommand (with_subcommand (with_settings (new_app (codes "chocola")))
+    with_subcommand (with_subcommand (with_subcommand (with_subcommand (with_subcommand (with_subcommand (with_settings (new_app (codes "chocola")))
     (told_command (codes "run") run_form).top)
     (told_command (codes "schedule") schedule_form).top)
     (told_command (codes "replay") replay_form).top)
     (told_command (codes "check") check_form).top)
-    (told_command (codes "make") make_form).top
+    (told_command (codes "make") make_form).top)
+    (told_command (codes "stress") stress_form).top
 
 -- what stands behind two dashes
 abbrev pub behind_dashes : Word → Option Word
@@ -70,6 +71,7 @@ command_named title given =
     else if bytes_eq (codes "replay") title then replay_of given
     else if bytes_eq (codes "check") title then check_of given
     else if bytes_eq (codes "make") title then make_of given
+    else if bytes_eq (codes "stress") title then stress_of given
     else None
 
 -- the command that the parser found, with the rows of what it is given

@@ -4,9 +4,11 @@ use value_core::Text;
 /// What a command line says.
 #[derive(Drop)]
 pub enum Command {
-    /// The run of the program in `file`, within the limits. Its trace is written to `trace`, where that is named.
+    /// The run of the program in `file` by so many workers, from 1 to 64, within the limits. Its trace is written to `trace`, where
+    /// that is named.
     Run {
         file: Text,
+        workers: u32,
         limits: Limits,
         trace: Option<Text>,
     },
@@ -31,5 +33,11 @@ pub enum Command {
     Make {
         number: u32,
         size: u32,
+    },
+    /// The run of the program that is made from these numbers, by so many workers, from 1 to 64.
+    Stress {
+        number: u32,
+        size: u32,
+        workers: u32,
     },
 }

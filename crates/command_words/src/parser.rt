@@ -2,7 +2,7 @@ ghost use Rattle.std.specs.Prelude.{◌≡◌, IfOk, codes, false, map};
 ghost use Rattle.clap.specs.Words.{app_of, rule_of};
 ghost use Rattle.clap.specs.declared.builder.Command.TheViews.{out-Command};
 ghost use Rattle.command_words.specs.Parser.{told, told_command, told_option, told_place, with_rules};
-ghost use Rattle.command_words.specs.Said.{check_form, make_form, replay_form, run_form, run_options, schedule_form};
+ghost use Rattle.command_words.specs.Said.{check_form, limit_options, make_form, replay_form, run_form, schedule_form, stress_form};
 
 use clap::{Arg, Command};
 use std::alloc::{AllocError, Global};
@@ -20,15 +20,18 @@ pub(crate) fn parser<'a>(alloc: Global) -> Result<Command<'a>, AllocError>
         .subcommand(schedule(alloc)?)?
         .subcommand(replay(alloc)?)?
         .subcommand(check(alloc)?)?
-        .subcommand(make(alloc)?)
+        .subcommand(make(alloc)?)?
+        .subcommand(stress(alloc)?)
 }
 
 fn run<'a>(alloc: Global) -> Result<Command<'a>, AllocError>
     ensures told { IfOk result (λ command. app_of command ≡ told_command (codes "run") run_form) }
     ensures local { IfOk result (λ command. (out-Command command).has_globals ≡ false) }
 {
-    let command = Command::new(alloc, "run").arg(place(alloc, "file"))?;
-    with_run_options(alloc, command)
+    let command = Command::new(alloc, "run")
+        .arg(place(alloc, "file"))?
+        .arg(option(alloc, "workers"))?;
+    with_limit_options(alloc, command)
 }
 
 fn schedule<'a>(alloc: Global) -> Result<Command<'a>, AllocError>
@@ -38,7 +41,7 @@ fn schedule<'a>(alloc: Global) -> Result<Command<'a>, AllocError>
     let command = Command::new(alloc, "schedule")
         .arg(place(alloc, "file"))?
         .arg(place(alloc, "schedule"))?;
-    with_run_options(alloc, command)
+    with_limit_options(alloc, command)
 }
 
 fn replay<'a>(alloc: Global) -> Result<Command<'a>, AllocError>
@@ -66,10 +69,20 @@ fn make<'a>(alloc: Global) -> Result<Command<'a>, AllocError>
         .arg(place(alloc, "size"))
 }
 
-/// The command with the options of what is run.
-fn with_run_options<'a>(alloc: Global, command: Command<'a>) -> Result<Command<'a>, AllocError>
+fn stress<'a>(alloc: Global) -> Result<Command<'a>, AllocError>
+    ensures told { IfOk result (λ command. app_of command ≡ told_command (codes "stress") stress_form) }
+    ensures local { IfOk result (λ command. (out-Command command).has_globals ≡ false) }
+{
+    Command::new(alloc, "stress")
+        .arg(place(alloc, "number"))?
+        .arg(place(alloc, "size"))?
+        .arg(option(alloc, "workers"))
+}
+
+/// The command with the options of what is run within limits.
+fn with_limit_options<'a>(alloc: Global, command: Command<'a>) -> Result<Command<'a>, AllocError>
     requires { (out-Command command).has_globals ≡ false }
-    ensures told { IfOk result (λ given. app_of given ≡ with_rules (app_of command.entry) (map told_option run_options)) }
+    ensures told { IfOk result (λ given. app_of given ≡ with_rules (app_of command.entry) (map told_option limit_options)) }
     ensures local { IfOk result (λ given. (out-Command given).has_globals ≡ false) }
 {
     command

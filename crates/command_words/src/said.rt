@@ -1,7 +1,7 @@
-ghost use Rattle.std.specs.Prelude.{◌≡◌, ◌≤◌, ◌^◌, Some, IfOk, IfSome, IfNone};
+ghost use Rattle.std.specs.Prelude.{◌≡◌, ◌≤◌, ◌^◌, Some, IfOk, IfSome, IfNone, codes};
 ghost use Rattle.clap.specs.Words.{first_value, found_of, subcommand_rows_of};
 ghost use Rattle.command_words.specs.Parser.{command_named, found_command};
-ghost use Rattle.command_words.specs.Said.{Reads, check_of, limits_of, make_of, number_between, number_or, replay_of, run_of, schedule_of, within};
+ghost use Rattle.command_words.specs.Said.{Reads, check_of, limits_of, made_of, make_of, number_between, number_or, replay_of, run_of, schedule_of, stress_of, within, workers_of};
 
 use crate::command::Command;
 use crate::number::number;
@@ -31,6 +31,7 @@ fn command_named(alloc: Global, name: &str, given: &ArgMatches<'_>) -> Result<Co
         "replay" => replay(alloc, given),
         "check" => check(alloc, given),
         "make" => make(given),
+        "stress" => stress(given),
         _ => Err(WordsNo::Usage),
     }
 }
@@ -41,9 +42,11 @@ fn run(alloc: Global, given: &ArgMatches<'_>) -> Result<Command, WordsNo>
 {
     let file = text(alloc, given, "file")?.ok_or(WordsNo::Usage)?;
     let trace = text(alloc, given, "trace")?;
+    let workers = workers(given).ok_or(WordsNo::Usage)?;
     let limits = limits(given).ok_or(WordsNo::Usage)?;
     Ok(Command::Run {
         file,
+        workers,
         limits,
         trace,
     })
@@ -86,9 +89,21 @@ fn check(alloc: Global, given: &ArgMatches<'_>) -> Result<Command, WordsNo>
 fn make(given: &ArgMatches<'_>) -> Result<Command, WordsNo>
     ensures { Reads (make_of (first_value (found_of given.now))) result }
 {
-    let number = number_between(given, "number", 0, 2_147_483_647).ok_or(WordsNo::Usage)?;
-    let size = number_between(given, "size", 1, 10_000).ok_or(WordsNo::Usage)?;
+    let (number, size) = made(given).ok_or(WordsNo::Usage)?;
     Ok(Command::Make { number, size })
+}
+
+/// The run of a made program that these values say.
+fn stress(given: &ArgMatches<'_>) -> Result<Command, WordsNo>
+    ensures { Reads (stress_of (first_value (found_of given.now))) result }
+{
+    let (number, size) = made(given).ok_or(WordsNo::Usage)?;
+    let workers = workers(given).ok_or(WordsNo::Usage)?;
+    Ok(Command::Stress {
+        number,
+        size,
+        workers,
+    })
 }
 
 /// The value of that name, if it has one.
@@ -98,6 +113,25 @@ fn text(alloc: Global, given: &ArgMatches<'_>, name: &str) -> Result<Option<Text
     match given.get_str(name) {
         Some(value) => Ok(Some(Text::from_bytes(alloc, value.as_bytes())?)),
         None => Ok(None),
+    }
+}
+
+/// The number and the size of a made program, and `None` where a value is no number or is out of its range.
+fn made(given: &ArgMatches<'_>) -> Option<(u32, u32)>
+    ensures { result ≡ made_of (first_value (found_of given.now)) }
+{
+    let number = number_between(given, "number", 0, 2_147_483_647)?;
+    let size = number_between(given, "size", 1, 10_000)?;
+    Some((number, size))
+}
+
+/// How many workers there are to be, and `None` where the value spells no number from 1 to 64. There are 4 where no value says it.
+fn workers(given: &ArgMatches<'_>) -> Option<u32>
+    ensures { result ≡ workers_of (first_value (found_of given.now) (codes "workers")) }
+{
+    match given.get_str("workers") {
+        Some(text) => number_within(text, 1, 64),
+        None => Some(4),
     }
 }
 

@@ -25,9 +25,10 @@ fn line_of_command(alloc: Global, command: &Command) -> Result<String, AllocErro
     match command {
         Command::Run {
             file,
+            workers,
             limits,
             trace,
-        } => line_of_run(alloc, file, *limits, trace),
+        } => line_of_shared_run(alloc, file, *workers, *limits, trace),
         Command::Schedule {
             file,
             schedule,
@@ -37,6 +38,11 @@ fn line_of_command(alloc: Global, command: &Command) -> Result<String, AllocErro
         Command::Replay { file, trace } => line_of_replay(alloc, file, trace),
         Command::Check { file } => line_of_check(alloc, file),
         Command::Make { number, size } => format!(in alloc; "make {number} {size}"),
+        Command::Stress {
+            number,
+            size,
+            workers,
+        } => format!(in alloc; "stress {number} {size} by {workers}"),
     }
 }
 
@@ -50,6 +56,17 @@ fn line_of_run(
     let trace = traced(alloc, trace)?;
     let (fuel, units) = (limits.fuel(), limits.units());
     format!(in alloc; "run {file} {fuel} {units} {trace}")
+}
+
+fn line_of_shared_run(
+    alloc: Global,
+    file: &Text,
+    workers: u32,
+    limits: Limits,
+    trace: &Option<Text>,
+) -> Result<String, AllocError> {
+    let run = line_of_run(alloc, file, limits, trace)?;
+    format!(in alloc; "{run} by {workers}")
 }
 
 fn line_of_schedule(
@@ -113,18 +130,29 @@ fn is_nothing_refused(alloc: Global) -> bool {
 #[test]
 fn reads(rt: HostRuntime) -> Result<(), Fail> {
     let rows = [
-        ("run a", "run a 1000000 100000 untraced"),
-        ("run a.clj --fuel 5", "run a.clj 5 100000 untraced"),
-        ("run --fuel=1 a", "run a 1 100000 untraced"),
-        ("run --fuel 10000000 a", "run a 10000000 100000 untraced"),
-        ("run a --units=1000000", "run a 1000000 1000000 untraced"),
-        ("run --units 1 a", "run a 1000000 1 untraced"),
-        ("run a --trace t", "run a 1000000 100000 t"),
-        ("run --trace=t=u a", "run a 1000000 100000 t=u"),
-        ("run --units 7 --trace t --fuel=9 run", "run run 9 7 t"),
+        ("run a", "run a 1000000 100000 untraced by 4"),
+        ("run a.clj --fuel 5", "run a.clj 5 100000 untraced by 4"),
+        ("run --fuel=1 a", "run a 1 100000 untraced by 4"),
+        (
+            "run --fuel 10000000 a",
+            "run a 10000000 100000 untraced by 4",
+        ),
+        (
+            "run a --units=1000000",
+            "run a 1000000 1000000 untraced by 4",
+        ),
+        ("run --units 1 a", "run a 1000000 1 untraced by 4"),
+        ("run a --trace t", "run a 1000000 100000 t by 4"),
+        ("run --trace=t=u a", "run a 1000000 100000 t=u by 4"),
+        ("run --units 7 --trace t --fuel=9 run", "run run 9 7 t by 4"),
         (
             "run --trace fuel a=--fuel",
-            "run a=--fuel 1000000 100000 fuel",
+            "run a=--fuel 1000000 100000 fuel by 4",
+        ),
+        ("run a --workers 1", "run a 1000000 100000 untraced by 1"),
+        (
+            "run --workers=64 a --trace=t --units 7",
+            "run a 1000000 7 t by 64",
         ),
         ("schedule a s", "schedule s: run a 1000000 100000 untraced"),
         (
@@ -140,6 +168,12 @@ fn reads(rt: HostRuntime) -> Result<(), Fail> {
         ("check check", "check check"),
         ("make 0 1", "make 0 1"),
         ("make 2147483647 10000", "make 2147483647 10000"),
+        ("stress 7 1000", "stress 7 1000 by 4"),
+        ("stress --workers 64 0 1", "stress 0 1 by 64"),
+        (
+            "stress 2147483647 --workers=1 10000",
+            "stress 2147483647 10000 by 1",
+        ),
     ];
     for (words, line) in rows {
         assert!(rt; says(rt.alloc(), words, line)?, "{words}");
@@ -152,7 +186,7 @@ const UNKNOWN: &str = "\nhelp\nru a\nRun a\n--fuel=5 run a";
 
 /// An option comes twice or has no value.
 const OPTIONS: &str =
-    "run a --fuel 5 --fuel 5\nrun a --fuel=5 --fuel 6\nrun --trace t --trace=t a\nrun a --fuel\nrun a --trace\nschedule a s --trace t --trace t\nschedule a s --units";
+    "run a --fuel 5 --fuel 5\nrun a --fuel=5 --fuel 6\nrun --trace t --trace=t a\nrun a --fuel\nrun a --trace\nschedule a s --trace t --trace t\nschedule a s --units\nrun a --workers\nrun a --workers 1 --workers=1\nstress 1 1 --workers 2 --workers 2";
 
 /// A value or a word in a place is empty or begins with a dash.
 const VALUES: &str =
@@ -160,11 +194,11 @@ const VALUES: &str =
 
 /// Too few words, or too many.
 const COUNTS: &str =
-    "run\nrun --fuel 5\nrun a b\nrun a --fuel 5 6\nreplay a\nreplay a t u\ncheck\ncheck a b\nschedule\nschedule a\nschedule a s t\nschedule a --trace s\nmake\nmake 1\nmake 1 1 1\nmake 1 1 --fuel 5";
+    "run\nrun --fuel 5\nrun a b\nrun a --fuel 5 6\nreplay a\nreplay a t u\ncheck\ncheck a b\nschedule\nschedule a\nschedule a s t\nschedule a --trace s\nmake\nmake 1\nmake 1 1 1\nmake 1 1 --fuel 5\nmake 1 1 --workers 1\nstress\nstress 1\nstress 1 1 1\nstress 1 1 --fuel 5\nstress 1 1 --trace t";
 
 /// No number, or one out of its range.
 const NUMBERS: &str =
-    "run a --fuel 05\nrun a --fuel 00\nrun a --fuel +5\nrun a --fuel 5x\nrun a --fuel 1_000\nrun a --fuel 0\nrun a --units 0\nrun a --fuel 10000001\nrun a --units 1000001\nrun a --units 4294967297\nrun a --fuel 18446744073709551617\nrun a --fuel 99999999999999999999\nrun a --fuel 100000000000000000000\nmake 1 0\nmake 1 10001\nmake 2147483648 1\nmake 4294967296 1\nmake 18446744073709551616 1\nmake 01 1\nmake 1 1x";
+    "run a --fuel 05\nrun a --fuel 00\nrun a --fuel +5\nrun a --fuel 5x\nrun a --fuel 1_000\nrun a --fuel 0\nrun a --units 0\nrun a --fuel 10000001\nrun a --units 1000001\nrun a --units 4294967297\nrun a --fuel 18446744073709551617\nrun a --fuel 99999999999999999999\nrun a --fuel 100000000000000000000\nmake 1 0\nmake 1 10001\nmake 2147483648 1\nmake 4294967296 1\nmake 18446744073709551616 1\nmake 01 1\nmake 1 1x\nrun a --workers 0\nrun a --workers 65\nrun a --workers 04\nrun a --workers 4x\nstress 1 0\nstress 1 10001\nstress 2147483648 1\nstress 1 1 --workers 0\nstress 1 1 --workers 65";
 
 /// Whether none of these lines is a command.
 fn are_refused(alloc: Global, lines: &str) -> Result<bool, AllocError> {

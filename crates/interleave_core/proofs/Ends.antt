@@ -19,7 +19,7 @@ use Rattle.serial_model.specs.declared.end.End.{End}
 use Rattle.serial_model.specs.Step.{next_of}
 use Rattle.shared_world.proofs.Gone.{aborted, seen-as}
 use Rattle.shared_world.proofs.Kept.{task-gave, unit-gave}
-use Rattle.shared_world.proofs.Later.{gave-actor-later, gave-task-later, gave-unit-later}
+use Rattle.shared_world.proofs.Later.{appends-later, gave-actor-appends, gave-task-appends, gave-unit-appends}
 use Rattle.shared_world.proofs.Live.{state-there, unit-piece}
 use Rattle.shared_world.proofs.MarkedTasks.{marked-task, undone-marked}
 use Rattle.shared_world.proofs.MarkedTurns.{marked-turn}
@@ -32,7 +32,7 @@ use Rattle.shared_world.specs.Later.{IsLater}
 use Rattle.shared_world.specs.Marks.{HasMarks}
 use Rattle.shared_world.specs.rows.Attempts.{Aborts}
 use Rattle.shared_world.specs.rows.Pieces.{ClaimsEnd, but_gone}
-use Rattle.shared_world.specs.Seen.{AttemptSeen}
+use Rattle.shared_world.specs.Seen.{AttemptSeen, live_with}
 use Rattle.shared_world.specs.Shared.{Shared, claimed, finished_by, is_going, unit_state, work_in}
 use Rattle.shared_world.specs.Stands.{Stands}
 use Rattle.task_fork_join.specs.Attempt.{Attempt}
@@ -51,7 +51,6 @@ use Rattle.value_core.specs.Name.{after_cmp}
 use Rattle.value_core.specs.Named.{Name, Named, named, same_name}
 use Rattle.value_core.specs.NameSet.{holds_at}
 use Rattle.world_model.specs.StandsFor.{AttemptStands}
-use Rattle.world_model.specs.World.{still}
 
 -- ---- what goes on
 later-itself : (s : Shared) → IsLater s s
@@ -106,20 +105,20 @@ pub gave-goes : (old new : Shared) (name : Name) (found : Given) → Stands old 
 gave-goes old new name found st going unfinished (giving.unit g) = record {
   stands = unit-gave old st going name (not-finished old.board name unfinished) found new g;
   marks = λ marks on_going. marked-unit old st (marks (ap is_going going)) name g.unit
-      (record { going = going; there = state-there old.board name g.unit g.there; unfinished = not-finished old.board name unfinished g.unit g.there }) g.there found new on_going (next_of old.setup (unit_state g.unit)) refl g.gives;
-  later = gave-unit-later old name found new g;
+      (record { going = going; there = state-there old.board name g.unit g.there; unfinished = not-finished old.board name unfinished g.unit g.there; level = g.level }) g.there found new on_going (next_of old.setup (unit_state g.unit)) refl g.gives;
+  later = appends-later found old new (gave-unit-appends old name found new g);
   claims = ends-none _ old new g.claims;
 }
 gave-goes old new name found st going unfinished (giving.task g) = record {
   stands = task-gave old st going name found new g;
   marks = λ marks on_going. marked-task old st (marks (ap is_going going)) going name found new on_going g;
-  later = gave-task-later old name found new g;
+  later = appends-later found old new (gave-task-appends old name found new g);
   claims = ends-none _ old new g.claims;
 }
 gave-goes old new name found st going unfinished (giving.actor g) = record {
   stands = actor-gave old st going name found new g;
   marks = λ marks on_going. marked-turn old st (marks (ap is_going going)) (ap is_going going) name found new g on_going;
-  later = gave-actor-later old name found new g;
+  later = appends-later found old new (gave-actor-appends old name found new g);
   claims = ends-none _ old new g.claims;
 }
 
@@ -148,7 +147,7 @@ tried-has s st going u some = on (named u s.attempts) refl some
     there tree is None at =
         let seen = seen-as s st (ap is_going going) u tree is in
         absurd (subst (λ found. AttemptStands s.setup u None found) seen.there
-        (subst (λ found. AttemptStands s.setup u found (st.world.attempts u)) (st.seen.units u ∙ ap (λ found. option_map still (option_map unit_state found)) at) (st.is_world.stands.attempts u)))
+        (subst (λ found. AttemptStands s.setup u found (st.world.attempts u)) (st.seen.units u ∙ ap (λ found. option_map (live_with (named u s.aheads)) (option_map unit_state found)) at) (st.is_world.stands.attempts u)))
 
     on : (found : Option Attempt) → named u s.attempts ≡ found → IsSome found → HasAttempt s u
     on None is e = cc
@@ -234,7 +233,7 @@ module _ (s : Shared) (st : Stands s) where
       machines = st.machines;
       attempts = λ going u tree there. cc;
       numbers = st.numbers;
-      definite = st.definite;
+      aheads = st.aheads;
     }
 
     -- and so are their marks

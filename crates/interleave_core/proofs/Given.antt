@@ -10,7 +10,7 @@ use Rattle.interleave_core.specs.Giving.{GivesTo, IsMovedOn, IsOpenUnit}
 use Rattle.interleave_core.specs.Giving as gives
 use Rattle.world_steps.specs.Kept.{IsUnitOf}
 use Rattle.world_steps.specs.Rows.{Comes, IsBodyThere}
-use Rattle.world_steps.specs.Turning.{TurnComes}
+use Rattle.actor_turns.specs.Turning.{TurnComes}
 use Rattle.serial_model.proofs.evaluation.Carries.{ask-is-there}
 use Rattle.serial_model.specs.declared.halt.Halt.{Halt}
 use Rattle.serial_model.specs.declared.halt.Halt.TheVariants as halt
@@ -26,7 +26,7 @@ use Rattle.shared_world.specs.Shared.{Shared, kept_machine, machine_in, unit_sta
 use Rattle.shared_world.specs.Stands.{IsMachine, Stands}
 use Rattle.unit_table.specs.Board.{unit_at}
 use Rattle.unit_table.specs.declared.unit.Unit.{Unit}
-use Rattle.value_core.specs.Named.{Name}
+use Rattle.value_core.specs.Named.{Name, named}
 use Rattle.value_core.specs.Place.{Spot}
 
 -- ---- a unit
@@ -83,12 +83,13 @@ body-there s st name moved some is = on moved.halt (halts-so s st name moved at.
     on (halt.Fault code spot) e = tt
     on halt.Spent e = tt
 
-pub unit-gave-so : (old new : Shared) (st : Stands old) (name : Name) (moved : Moved) (result : Result Given AllocError) → IsSome (unit_at old.board name) → IfSome (kept_machine old name) (λ kept. IsMovedOn old.setup.program kept moved)
+pub unit-gave-so : (old new : Shared) (st : Stands old) (name : Name) (moved : Moved) (result : Result Given AllocError) → named name old.aheads ≡ None → IsSome (unit_at old.board name) → IfSome (kept_machine old name) (λ kept. IsMovedOn old.setup.program kept moved)
     → Comes old name moved.halt new result → GivesTo old name new result
-unit-gave-so old new st name moved (Err e) some is r = same-wanting old new name st r
-unit-gave-so old new st name moved (Ok found) some is r = gives.unit (record {
+unit-gave-so old new st name moved (Err e) level some is r = same-wanting old new name st r
+unit-gave-so old new st name moved (Ok found) level some is r = gives.unit (record {
   unit = at.x;
   there = at.there;
+  level = level;
   gives = subst (λ h. UnitGives old name at.x h found new) (halts-so old st name moved at.x at.there (moved-of old name moved at.x at.there is)) (r.row at.x at.there);
   claims = r.claims;
 })

@@ -13,6 +13,7 @@ use Rattle.serial_model.specs.declared.halt.Halt.{Halt}
 use Rattle.shared_world.proofs.Kept.{unclaimed-keeps}
 use Rattle.shared_world.proofs.Live.{going, unfinished}
 use Rattle.shared_world.proofs.Marks.{pieces-marks}
+use Rattle.shared_world.specs.Counts.{age_of}
 use Rattle.shared_world.specs.declared.given.Given.{Given}
 use Rattle.shared_world.specs.Gave as gave
 use Rattle.shared_world.specs.Gave.{Gave}
@@ -122,6 +123,7 @@ module _ (old mid new : Shared) (r : Returned) (name : Name) (live : IsLive old 
     others = λ other ne. left.unclaimed.others other ne ∙ same-claimed other (other-free other ne);
     ready_again = λ q live_q. subst (λ n. ready new n ≡ true) (one-name q live_q) again;
     pieces = λ q not_live. left.unclaimed.pieces q ∙ wants.others q (λ same. not_live (subst (IsLive old r) (sym same) live));
+    ages = λ u. ap (λ (s : Shared). age_of s u) left.unclaimed.rest ∙ wants.ages u;
     rest = left.unclaimed.rest ∙ ap (λ (s : Shared). record s { board = new.board }) wants.rest
         ∙ ap (λ a. record old { attempts = a; board = new.board }) (sym (ap (λ (s : Shared). s.attempts) left.unclaimed.rest));
   }
@@ -138,6 +140,7 @@ back-plain old new r st left = record {
   others = λ other ne. left.unclaimed.others other ne;
   ready_again = λ q live. left.again q live.claim;
   pieces = λ q not_live. left.unclaimed.pieces q;
+  ages = λ u. ap (λ (s : Shared). age_of s u) left.unclaimed.rest;
   rest = left.unclaimed.rest ∙ ap (λ a. record old { attempts = a; board = new.board }) (sym (ap (λ (s : Shared). s.attempts) left.unclaimed.rest));
 }
 

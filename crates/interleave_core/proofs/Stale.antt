@@ -91,8 +91,8 @@ ends old u x tree (end.Fault code at) found new r = ap is_stale r.found_is
 ends old u x tree end.Spent found new r = ap is_stale r.found_is
 
 root : (old : Shared) (u : Name) (x : Unit) (tree : Attempt) (e : TaskEnd) (found : Given) (new : Shared) → RootGives old u x tree e found new → is_stale found ≡ false
-root old u x tree e found new (row.valid all r) = ends old u x tree e found new r
-root old u x tree e found new (row.conflicts r) = ap is_stale r.aborts.found_is
+root old u x tree e found new (row.valid level all r) = ends old u x tree e found new r
+root old u x tree e found new (row.conflicts level r) = ap is_stale r.aborts.found_is
 
 misses : (old : Shared) (u : Name) (x : Unit) (tree : Attempt) (ref : Name) (version : Option Version) (found : Given) (new : Shared) → Missing old u x tree ref version found new → is_stale found ≡ false
 misses old u x tree ref None found new r = absurd r

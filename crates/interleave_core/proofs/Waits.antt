@@ -15,9 +15,9 @@ use Rattle.value_core.specs.Named.{Name, named}
 waits-free : (s : Shared) (owner : Name) → IsWaitingUnit s.board owner → LentAreReady s.board → IsFree s.board owner
 waits-free s owner is ready ticket lent = let no : false ≡ true = sym is.waits ∙ ap marks_ready (sym (unit-piece s.board owner is.unit is.there)) ∙ ready ticket owner lent in cc
 
-pub trying-so : (s : Shared) (owner : Name) → IsWaitingUnit s.board owner → IsSome (named owner s.attempts) → LentAreReady s.board → IsTrying s owner
-trying-so s owner is some ready = on (named owner s.attempts) refl some
+pub trying-so : (s : Shared) (owner : Name) → IsWaitingUnit s.board owner → IsSome (named owner s.attempts) → LentAreReady s.board → named owner s.aheads ≡ None → IsTrying s owner
+trying-so s owner is some ready level = on (named owner s.attempts) refl some
   where
     on : (o : Option Attempt) → named owner s.attempts ≡ o → IsSome o → IsTrying s owner
     on None e is_some = absurd (cc)
-    on (Some tree) e is_some = record { has = record { unit = is.unit; there = is.there; tree = tree; attempt = e }; free = waits-free s owner is ready }
+    on (Some tree) e is_some = record { has = record { unit = is.unit; there = is.there; tree = tree; attempt = e }; level = level; free = waits-free s owner is ready }

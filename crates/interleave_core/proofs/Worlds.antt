@@ -9,7 +9,6 @@ use Rattle.interleave_core.specs.Back.{GivesBack}
 use Rattle.interleave_core.specs.Claims.{IsAbandoned, IsClaimOn}
 use Rattle.world_steps.specs.Kept.{IsSameBut}
 use Rattle.interleave_core.specs.Standing.{IsStanding}
-use Rattle.serial_model.specs.Actors.{IsWithoutActors}
 use Rattle.serial_model.specs.declared.end.End.{End}
 use Rattle.serial_model.specs.declared.end.End.TheVariants.{Done}
 use Rattle.serial_model.specs.State.{Setup}
@@ -32,11 +31,10 @@ use Rattle.world_claim.specs.Lent.{Lent}
 use Rattle.world_claim.specs.Run.{IsRunOf, parts_of, returned_of}
 
 -- main alone stands
-pub opening-standing : (setup : Setup) (s : Shared) → IsWellFormed setup.program → IsWithoutActors setup.program → IsOpening setup s → IsStanding s Done
-opening-standing setup s formed covered is = record {
+pub opening-standing : (setup : Setup) (s : Shared) → IsWellFormed setup.program → IsOpening setup s → IsStanding s Done
+opening-standing setup s formed is = record {
   stands = opening-stands setup s formed is;
   marks = opening-marks setup s is;
-  covered = subst (λ (t : Shared). IsWithoutActors t.setup.program) (sym is.rest) covered;
   done_is = refl;
 }
 
@@ -45,7 +43,6 @@ pub still-standing : (old new : Shared) (closing : End) → IsStanding old closi
 still-standing old new closing is same rest = record {
   stands = pieces-stand old new is.stands same rest;
   marks = pieces-marks old new same rest is.marks;
-  covered = subst (λ (t : Shared). IsWithoutActors t.setup.program) (sym rest) is.covered;
   done_is = is.done_is;
 }
 
@@ -62,13 +59,11 @@ pub given-standing : (old new : Shared) (r : Returned) (closing : End) (result :
 given-standing old new r closing (Ok found) is given_so = record {
   stands = gave-keeps old new r found is.stands given_so.gave;
   marks = gave-marks old new r found is.stands is.marks given_so.gave;
-  covered = subst (λ (t : Setup). IsWithoutActors t.program) (sym (gave-later old new r found given_so.gave).setup) is.covered;
   done_is = is.done_is;
 }
 given-standing old new r closing (Err e) is back = record {
   stands = back.stands;
   marks = back.marks is.marks;
-  covered = subst (λ (t : Shared). IsWithoutActors t.setup.program) (sym back.rest) is.covered;
   done_is = is.done_is;
 }
 
@@ -81,6 +76,5 @@ pub later-standing : (old new : Shared) (closing : End) → IsStanding old closi
 later-standing old new closing is stands marks later = record {
   stands = stands;
   marks = marks is.marks;
-  covered = subst (λ (t : Setup). IsWithoutActors t.program) (sym later.setup) is.covered;
   done_is = is.done_is;
 }

@@ -2,6 +2,7 @@
 use Rattle.std.specs.Prelude.{◌≡◌, Err, None, Ok, Result, true}
 use Rattle.std.specs.declared.alloc.AllocError.{AllocError}
 use Rattle.interleave_core.specs.Claims.{IsStale}
+use Rattle.shared_world.specs.Counts.{age_of}
 use Rattle.shared_world.specs.declared.given.Given.{Given}
 use Rattle.shared_world.specs.declared.given.Given.TheVariants as given
 use Rattle.shared_world.specs.Gave.{Gave}
@@ -14,7 +15,7 @@ use Rattle.value_core.specs.declared.ticket.Ticket.{Ticket}
 use Rattle.value_core.specs.Named.{Name}
 
 -- The history, the refs, the bytes and the end are as they were, and so is every other piece; the claim is out no more, and every
--- other claim is; the piece is ready again; and the marks are right where they were.
+-- other claim is; the piece is ready again; each attempt began where it did; and the marks are right where they were.
 pub record IsBack (old : Shared) (result : Returned) (new : Shared) : Type 0 where
   pub stands : Stands new
   pub marks : HasMarks old → HasMarks new
@@ -22,6 +23,7 @@ pub record IsBack (old : Shared) (result : Returned) (new : Shared) : Type 0 whe
   pub others : (other : Ticket) → (other ≡ result.ticket → ⊥) → claimed new other ≡ claimed old other
   pub ready_again : (name : Name) → IsLive old result name → ready new name ≡ true
   pub pieces : (name : Name) → (IsLive old result name → ⊥) → piece_at new.board name ≡ piece_at old.board name
+  pub ages : (u : Name) → age_of new u ≡ age_of old u
   pub rest : new ≡ record old { attempts = new.attempts; board = new.board }
 
 -- what a result comes to

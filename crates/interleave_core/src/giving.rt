@@ -18,6 +18,7 @@ ghost use Rattle.world_claim.specs.Lent.{IsMachineOf};
 ghost use Rattle.world_claim.specs.Run.{IsRunOf, returned_of};
 
 use crate::claims::{abandon, live_piece};
+use actor_turns::give_actor;
 use attempt_steps::{settle_task, step_task};
 use core_syntax::Program;
 use eval_step::Machine;
@@ -173,7 +174,7 @@ fn give_ended(kept: &mut Kept, alloc: Global, name: &Name) -> Result<Given, Allo
     match stander_of(kept, alloc, name)? {
         Stander::Unit => Err(AllocError),
         Stander::Task(owner) => settle_task(kept, alloc, &owner, name),
-        Stander::Actor => kept.give_actor(alloc, name),
+        Stander::Actor => give_actor(kept, alloc, name),
     }
 }
 

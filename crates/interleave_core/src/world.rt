@@ -8,7 +8,6 @@ ghost use Rattle.world_steps.specs.Kept.{IsSameBut};
 ghost use Rattle.interleave_core.specs.Over.{IsIdle, IsOverWith, IsRunOver};
 ghost use Rattle.interleave_core.specs.declared.error.ClaimNo.TheVariants as no;
 ghost use Rattle.interleave_core.specs.declared.error.NamedNo.TheVariants as named;
-ghost use Rattle.serial_model.specs.Actors.{IsWithoutActors};
 ghost use Rattle.serial_model.specs.declared.end.End.{End as Ending};
 ghost use Rattle.shared_world.specs.declared.given.Given.TheVariants as answers;
 ghost use Rattle.shared_world.specs.Gave.{Gave};
@@ -26,7 +25,6 @@ use crate::error::{ClaimNo, NamedNo, StepNo};
 use crate::finishing::finish;
 use crate::giving::give;
 use core_syntax::Program;
-use program_coverage::is_without_actors;
 use serial_model::{ActorState, End, History, Limits};
 use shared_world::Given;
 use std::alloc::{AllocError, Global};
@@ -61,17 +59,8 @@ impl Model for World {
 }
 
 impl World {
-    /// Whether a world can run the program: whether no node of it makes an actor, gives one a behaviour, sends to one, or asks
-    /// for its own. It takes no memory.
-    pub fn covers(program: &Program) -> bool
-        ensures { IsTrue result ↔ IsWithoutActors program.now }
-    {
-        is_without_actors(program)
-    }
-
     /// Main alone, of that program under these limits: nothing is in the history, and no claim is out.
     pub fn new(alloc: Global, program: Arc<Program>, limits: Limits) -> Result<Self, AllocError>
-        requires { IsWithoutActors (arc_value program) }
         ensures opens { IfOk result (λ world. IsOpening (record { program = arc_value program; limits = limits }) world) }
         ensures unclaimed { IfOk result (λ world. (ticket : Numbered) → claimed world ticket ≡ None) }
     {
@@ -184,12 +173,10 @@ impl World {
         is_ready(&self.kept, piece)
     }
 
-    /// The world stands for the replay of its history, the mark of each piece is right, and its program has no actors. It does
-    /// nothing.
+    /// The world stands for the replay of its history, and the mark of each piece is right. It does nothing.
     pub fn stands(&self)
         ensures stands { Stands self.now }
         ensures marks { HasMarks self.now }
-        ensures covered { IsWithoutActors self.now.setup.program }
     {
         let _done = &self.done;
     }

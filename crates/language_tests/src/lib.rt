@@ -2,9 +2,13 @@
 #![tactic(auto)]
 
 #[cfg(test)]
+mod answers;
+#[cfg(test)]
 mod histories;
 #[cfg(test)]
 mod keys;
+#[cfg(test)]
+mod long;
 #[cfg(test)]
 mod machines;
 #[cfg(test)]

@@ -1,10 +1,10 @@
 use crate::names::name_of;
 use std::alloc::{AllocError, Global};
 use std::test::Fail;
-use value_core::{Dict, Key, Pair, Seq, Text, Value};
+use value_core::{Dict, Key, Pair, Text, Value};
 
 pub(crate) fn text(alloc: Global, bytes: &[u8]) -> Result<Text, AllocError> {
-    Seq::from_bytes(alloc, bytes)
+    Text::from_bytes(alloc, bytes)
 }
 
 fn put_word(pairs: &mut Dict<Value>, word: Text, number: i64) -> Result<(), AllocError> {

@@ -3,7 +3,7 @@
 //! key of each kind, `empty` for {}; `ref`, `actor` or `future` with the name of main.
 
 use std::alloc::{AllocError, Global};
-use value_core::{Dict, Key, Name, Seq, Value, Values};
+use value_core::{Dict, Key, Name, Text, Value, Values};
 
 fn int_of(digits: &[u8]) -> i64 {
     let mut number = 0i64;
@@ -45,7 +45,7 @@ fn put_string(
     key: &[u8],
     value: Value,
 ) -> Result<(), AllocError> {
-    let key = Key::Str(Seq::from_bytes(alloc, key)?);
+    let key = Key::Str(Text::from_bytes(alloc, key)?);
     pairs.put(key, value)
 }
 
@@ -55,7 +55,7 @@ fn put_keyword(
     key: &[u8],
     value: Value,
 ) -> Result<(), AllocError> {
-    let key = Key::Kw(Seq::from_bytes(alloc, key)?);
+    let key = Key::Kw(Text::from_bytes(alloc, key)?);
     pairs.put(key, value)
 }
 
@@ -88,8 +88,8 @@ fn named(alloc: Global, word: &[u8]) -> Result<Value, AllocError> {
 fn plain(alloc: Global, word: &[u8]) -> Result<Value, AllocError> {
     match word {
         b"nil" => Ok(Value::Nil),
-        [b'"', text @ ..] => Ok(Value::Str(Seq::from_bytes(alloc, text)?)),
-        [b':', name @ ..] => Ok(Value::Kw(Seq::from_bytes(alloc, name)?)),
+        [b'"', text @ ..] => Ok(Value::Str(Text::from_bytes(alloc, text)?)),
+        [b':', name @ ..] => Ok(Value::Kw(Text::from_bytes(alloc, name)?)),
         [b'[', numbers @ ..] => vector_of(alloc, numbers),
         digits => Ok(Value::Int(int_of(digits))),
     }

@@ -1,4 +1,4 @@
-use shared_map::SharedMap;
+use shared_map::{SharedMap, SharedNames};
 use std::alloc::{AllocError, Global};
 use std::test::Fail;
 use value_core::{Name, Value};
@@ -68,5 +68,49 @@ fn a_copy_stays_where_the_other_changes(rt: HostRuntime) -> Result<(), Fail> {
     assert!(rt;
         values(rt.alloc(), &map)?.as_slice() == [1, 10, 20, 30, 41, 50, 60, 70, 80, 90].as_slice()
     );
+    Ok(())
+}
+
+#[test]
+fn a_map_is_put_over_another(rt: HostRuntime) -> Result<(), Fail> {
+    let mut map = nine(rt.alloc())?;
+    let mut more = SharedMap::new(rt.alloc());
+    put(rt.alloc(), &mut more, 4, 41)?;
+    put(rt.alloc(), &mut more, 10, 100)?;
+    map.put_all(&more)?;
+    assert!(rt;
+        values(rt.alloc(), &map)?.as_slice() == [10, 20, 30, 41, 50, 60, 70, 80, 90, 100].as_slice()
+    );
+    assert_eq!(rt; map.names()?.len(), 10);
+    Ok(())
+}
+
+/// The names of the things with these numbers that main made.
+fn names_of(alloc: Global, numbers: &[u32]) -> Result<SharedNames, AllocError> {
+    let mut names = SharedNames::new(alloc);
+    for number in numbers {
+        names.add(name(alloc, *number)?)?;
+    }
+    Ok(names)
+}
+
+/// Whether the names are those of the things with these numbers that main made.
+fn are(names: &SharedNames, numbers: &[u32]) -> Result<bool, AllocError> {
+    let listed = names.list()?;
+    let mut are = listed.len() == numbers.len();
+    for (name, number) in listed.iter().zip(numbers) {
+        are = are && name.parts() == [0, *number].as_slice();
+    }
+    Ok(are)
+}
+
+#[test]
+fn names_are_added_in_their_places(rt: HostRuntime) -> Result<(), Fail> {
+    let names = names_of(rt.alloc(), [3, 1, 3, 2].as_slice())?;
+    let mut both = names.copy()?;
+    both.add_all(&names_of(rt.alloc(), [5, 2, 0].as_slice())?)?;
+    assert!(rt; are(&names, [1, 2, 3].as_slice())?);
+    assert!(rt; are(&both, [0, 1, 2, 3, 5].as_slice())?);
+    assert!(rt; both.contains(&name(rt.alloc(), 5)?) && !names.contains(&name(rt.alloc(), 5)?));
     Ok(())
 }

@@ -7,7 +7,7 @@ use crate::line::push_line;
 use crate::transfer::Transfer;
 use itoa::Buffer;
 use std::alloc::{AllocError, Global};
-use value_core::{Seq, Text};
+use value_core::Text;
 
 /// The lines that stand in each program.
 const COMMON: &[u8] = b"\
@@ -26,7 +26,7 @@ const TELLERS: u32 = 8;
 pub fn make(alloc: Global, number: u32, size: u32) -> Result<Text, AllocError>
     ensures { IfOk result (λ text. text ≡ made_text number size) }
 {
-    let mut text = Seq::new(alloc);
+    let mut text = Text::new(alloc);
     push_definitions(&mut text, size)?;
     push_transfers(&mut text, number, size)?;
     Ok(text)

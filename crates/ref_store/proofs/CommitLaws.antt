@@ -1,5 +1,5 @@
 -- The steps of a commit, from the last write to the first.
-use Rattle.std.proofs.Common.{◌≡◌, ◌∙◌, ℕ, zero, suc, ◌<◌, Bool, true, false, cond, List, [], ◌∷◌, ◌++◌, length, get_or, length-append, refl, sym, ap, subst, Option, Some, None, arith}
+use Rattle.std.proofs.Common.{◌≡◌, ◌∙◌, ℕ, zero, suc, ◌<◌, Bool, true, false, cond, List, [], ◌∷◌, ◌++◌, length, get_or, length-append, refl, sym, ap, subst, Option, Some, None, ◌⊎◌, inl, inr, ◌≤◌, arith}
 use Rattle.std.specs.Prelude.{All, unwrap_or}
 use Rattle.std.proofs.lemmas.List.{get_or_append_left, get_or_at}
 use Rattle.std.specs.declared.cmp.Ordering.TheVariants.{Less, Equal}
@@ -10,10 +10,10 @@ use Rattle.value_core.specs.declared.value.Value.{Value}
 use Rattle.value_core.specs.Name.{after_cmp}
 use Rattle.value_core.specs.Named.{Name, Named, named, same_name, Rises}
 use Rattle.value_core.specs.Roomy.{Roomy}
-use Rattle.value_core.proofs.NamedLaws.{IsBelow, after_cmp-itself, named-first, named-other, rises-first, rises-rest}
+use Rattle.value_core.proofs.NamedLaws.{IsBelow, after_cmp-itself, named-first, named-other, rises-first, rises-rest, same_or_not}
 use Rattle.value_core.proofs.Tests.{both, first_of, second_of}
 use Rattle.ref_store.specs.declared.version.Version.{Version}
-use Rattle.ref_store.specs.Places.{room_in, versions_in, AreAdded, AreWatched, IsAdded, IsReady}
+use Rattle.ref_store.specs.Places.{room_in, versions_in, AreAdded, AreFew, AreWatched, IsAdded, IsReady}
 use Rattle.ref_store.specs.Store.{committed, version_of, versions_of, with_version, HasRoom, HasRoomFor, IsAbove}
 use Rattle.ref_store.proofs.WriteLaws.{rise_at}
 
@@ -74,6 +74,17 @@ committed-last versions (w ∷ ws) write number = ap (λ (vs : Named (List Versi
 -- the versions of another ref stay
 versions-other : (versions : Named (List Version)) (other name : Name) (version : Version) → ¬ (other ≡ name) → versions_of (with_version versions name version) other ≡ versions_of versions other
 versions-other versions other name version apart = ap (λ (o : Option (List Version)). unwrap_or o []) (named-other other name (versions_of versions name ++ version ∷ []) versions apart)
+
+-- no ref has more versions than before, but for the one that got one more
+pub few_added : (name : Name) (version : Version) (old new : Places) (most count higher : ℕ) → IsAdded name version old new → length (versions_of (versions_in new) name) ≡ count → most ≤ higher → count ≤ higher
+    → AreFew most (versions_in old) → AreFew higher (versions_in new)
+few_added name version old new most count higher added is low high few other = on (same_or_not other name)
+  where
+    on : (other ≡ name) ⊎ ¬ (other ≡ name) → length (versions_of (versions_in new) other) ≤ higher
+    on (inl same) = subst (λ n. length (versions_of (versions_in new) n) ≤ higher) (sym same) (omega arith)
+    on (inr apart) =
+        subst (λ (vs : List Version). length vs ≤ higher) (sym (ap (λ (vs : Named (List Version)). versions_of vs other) added.shows ∙ versions-other (versions_in old) other name version apart))
+        (let before = few other in omega arith)
 
 -- these writes are left, and what they add to what is there makes the whole commit
 pub record IsUnderWay (number : ℕ) (all : Named Value) (old : Places) (left : Named Value) (places : Places) : Type 0 where

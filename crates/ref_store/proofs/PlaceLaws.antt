@@ -46,6 +46,11 @@ versions_there name places place rises there =
     ap (λ (o : Option (List Version)). unwrap_or o []) (named_shown name places rises ∙ ap (λ (o : Option (Roomy Version)). option_and_then (λ (p : Option (List Version)). p) (option_map items_shown o)) there)
     ∙ shown_items place.items
 
+-- those of what is put there
+pub versions_put : (name : Name) (old new : Places) (place : Roomy Version) → Rises old → new ≡ with_named old name place → versions_of (versions_in new) name ≡ place.items
+versions_put name old new place rises put =
+    versions_there name new place (subst (λ (p : Places). Rises p) (sym put) (rises-with_named name place old rises)) (ap (named name) put ∙ named-here name place old)
+
 pub versions_nowhere : (name : Name) (places : Places) → Rises places → named name places ≡ None → versions_of (versions_in places) name ≡ []
 versions_nowhere name places rises none =
     ap (λ (o : Option (List Version)). unwrap_or o []) (named_shown name places rises ∙ ap (λ (o : Option (Roomy Version)). option_and_then (λ (p : Option (List Version)). p) (option_map items_shown o)) none)

@@ -112,7 +112,7 @@ module _ (live : List ℕ) where
         on None is = tt
         on (Some place) is = (pruned_itself place.items (let few = few_at name place is in let bound = way.bound in omega arith), omega arith)
 
-    pub kept_at_end : AreKept (Some most) names places
+    pub kept_at_end : AreKept most names places
     kept_at_end = record { rises = way.rises; watched = way.watched; few = λ name. on name (named name places) refl }
       where
         on : (name : Name) (o : Option (Roomy Version)) → named name places ≡ o → length (versions_of (versions_in places) name) ≤ most

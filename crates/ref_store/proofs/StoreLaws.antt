@@ -1,5 +1,5 @@
 -- What is read after a commit, at numbers below and from that of the commit on.
-use Rattle.std.proofs.Common.{◌≡◌, ◌∙◌, ℕ, ◌+◌, ◌<◌, ◌≤◌, Bool, true, false, cond, List, [], ◌∷◌, ◌++◌, append-nil, length, length-append, get_or, refl, sym, ap, subst, Option, Some, None, arith}
+use Rattle.std.proofs.Common.{◌≡◌, ◌∙◌, ℕ, ◌<◌, ◌≤◌, Bool, true, false, cond, List, [], ◌∷◌, ◌++◌, append-nil, get_or, refl, sym, ap, subst, Option, Some, None, arith}
 use Rattle.std.specs.Prelude.{All, unwrap_or}
 use Rattle.std.proofs.lemmas.List.Elements.{All-contains, All-push}
 use Rattle.std.specs.Option.{option_and_then, option_map, option_or}
@@ -46,15 +46,6 @@ versions_committed versions (w ∷ ws) number rises name = committed_first versi
         on true same =
             ap (λ (vs : List Version). vs ++ version_of number w.1 ∷ []) (unwritten ∙ ap (versions_of versions) (sym (same_name-equal name w.0 same)))
         on false apart = rest name
-
--- no ref gets more than one
-pub one_committed : (versions new : Refs) (writes : Named Value) (number : ℕ) → Rises writes → new ≡ committed versions writes number → (name : Name) → length (versions_of new name) ≤ length (versions_of versions name) + 1
-one_committed versions new writes number rises is name =
-    subst (λ (vs : List Version). length vs ≤ length (versions_of versions name) + 1) (sym (ap (λ (m : Refs). versions_of m name) is ∙ versions_committed versions writes number rises name)) (on (named name writes))
-  where
-    on : (o : Option Value) → length (versions_of versions name ++ written number o) ≤ length (versions_of versions name) + 1
-    on None = let long = length-append (versions_of versions name) [] in omega arith
-    on (Some value) = let long = length-append (versions_of versions name) (version_of number value ∷ []) in omega arith
 
 -- ---- a read of a ref
 -- below the commit's number it is what it was

@@ -40,17 +40,12 @@ count_of (Some place) = length place.items
 abbrev pub AreWatched : List Name → Named (Roomy Version) → Type 0
 AreWatched names places = (name : Name) (place : Roomy Version) → named name places ≡ Some place → is_busy place ≡ true → Contains names name
 
--- no ref has more versions than that, where a bound is known
-abbrev pub AreFew : Option ℕ → Named (List Version) → Type 0
-AreFew None versions = ⊤
-AreFew (Some most) versions = (name : Name) → length (versions_of versions name) ≤ most
-
--- no ref has got more than one version
-abbrev pub HasOneMore : Named (List Version) → Named (List Version) → Type 0
-HasOneMore old new = (name : Name) → length (versions_of new name) ≤ length (versions_of old name) + 1
+-- no ref has more versions than that
+abbrev pub AreFew : ℕ → Named (List Version) → Type 0
+AreFew most versions = (name : Name) → length (versions_of versions name) ≤ most
 
 -- the names of the places rise, those of the busy ones are in the list, and none has more versions than the bound
-pub record AreKept (most : Option ℕ) (names : List Name) (places : Named (Roomy Version)) : Type 0 where
+pub record AreKept (most : ℕ) (names : List Name) (places : Named (Roomy Version)) : Type 0 where
   pub rises : Rises places
   pub watched : AreWatched names places
   pub few : AreFew most (versions_in places)

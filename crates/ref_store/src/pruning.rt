@@ -1,4 +1,4 @@
-ghost use Rattle.std.specs.Prelude.{◌≡◌, ◌<◌, IfSome, IsNone, Some, false, length};
+ghost use Rattle.std.specs.Prelude.{◌≡◌, ◌<◌, IfSome, IsNone, false, length};
 ghost use Rattle.std.specs.List.Sorted.{IsNonDecreasing};
 ghost use Rattle.value_core.specs.Named.{named, Rises};
 ghost use Rattle.ref_store.specs.Places.{count_of, has_busy, ArePrunedPlaces, AreKept, AreWatched, IsPrunedUnder, PrunesAt};
@@ -18,7 +18,7 @@ pub(crate) fn prune(
     requires names { Rises refs.old.entries }
     requires watched { AreWatched watched.old.items refs.old.entries }
     ensures pruned { ArePrunedPlaces live.now refs.old.entries refs.new.entries }
-    ensures kept { AreKept (Some result) watched.new.items refs.new.entries }
+    ensures kept { AreKept result watched.new.items refs.new.entries }
 {
     let mut most = 1;
     // From the last name on, so that the name that comes into the place of one taken out has been looked at.

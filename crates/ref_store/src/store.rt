@@ -1,11 +1,10 @@
-ghost use Rattle.std.specs.Prelude.{◌≡◌, ◌+◌, ◌<◌, ℕ, List, [], true, All, None, OnOk, Some};
+ghost use Rattle.std.specs.Prelude.{◌≡◌, ◌<◌, ℕ, List, [], false, length, All, None, OnOk};
 ghost use Rattle.std.specs.List.{Contains};
 ghost use Rattle.std.specs.List.Sorted.{IsNonDecreasing};
 ghost use Rattle.std.specs.Option.{option_copied};
-ghost use Rattle.value_core.specs.Named.{Name as Naming, Named, named, Rises};
-ghost use Rattle.ref_store.specs.Places.{has_busy, room_in, HasOneMore, AreAdded, AreFew, AreWatched, IsAdded, IsReady, IsReserved};
+ghost use Rattle.value_core.specs.Named.{Name as Naming, named, Rises};
+ghost use Rattle.ref_store.specs.Places.{has_busy, room_in, versions_in, AreAdded, AreFew, AreWatched, IsAdded, IsReady, IsReserved};
 ghost use Rattle.ref_store.specs.Store.{committed, versions_of, ArePruned, HasRoom, HasRoomFor, IsAbove, ReadsStayBelow, ReadsWrittenFrom};
-ghost use Rattle.ref_store.specs.declared.version.Version.{Version as Item};
 ghost use Rattle.ref_store.specs.Version.{newest, value_at, IsHighest, IsReadAt};
 
 use crate::pruning::prune;
@@ -23,8 +22,8 @@ pub struct Store {
     refs: BTreeMap<Name, Versions>,
     // The refs that a prune looks at: each that has room for a version or several versions, and perhaps some others.
     watched: Vec<Name>,
-    // How many versions a ref has at most, where that is known.
-    most: Option<usize>,
+    // No ref has more versions than so many.
+    most: usize,
 }
 
 impl Model for Store {
@@ -48,7 +47,7 @@ impl Store {
         Store {
             refs: BTreeMap::new(alloc),
             watched: Vec::new(alloc),
-            most: Some(0),
+            most: 0,
         }
     }
 
@@ -100,8 +99,15 @@ impl Store {
         ensures above { (later : ℕ) → number < later → IsAbove later self.new.versions }
         ensures kept { (name : Naming) → named name writes.items ≡ None → HasRoom name self.old.room → HasRoom name self.new.room }
     {
-        commit(&mut self.refs, writes.into_items(), number);
-        self.most = one_more(self.most);
+        self.most = commit(&mut self.refs, writes.into_items(), number, self.most);
+    }
+
+    /// Whether a ref may have more versions than one beside one for each of so many live numbers. Where none has, nothing is to be
+    /// pruned. It takes no memory, and looks at no ref.
+    pub fn is_due(&self, live: usize) -> bool
+        ensures { result ≡ false → (numbers : List ℕ) → length numbers ≡ live → ArePruned numbers self.now.versions self.now.versions }
+    {
+        self.most.saturating_sub(1) > live
     }
 
     /// Drops versions that no live number reads, so that no ref keeps more than one beside those that live numbers can read.
@@ -112,10 +118,10 @@ impl Store {
         ensures above { (number : ℕ) → IsAbove number self.old.versions → IsAbove number self.new.versions }
         ensures kept { (name : Naming) → HasRoom name self.old.room → HasRoom name self.new.room }
     {
-        if are_few(self.most, live.len()) {
+        if !self.is_due(live.len()) {
             return;
         }
-        self.most = Some(prune(&mut self.refs, &mut self.watched, live));
+        self.most = prune(&mut self.refs, &mut self.watched, live);
     }
 }
 
@@ -166,26 +172,6 @@ fn watch(
     Ok(watched.push(name.copy(alloc)?)?)
 }
 
-/// How many versions a ref has at most, where each may have got one more.
-fn one_more(most: Option<usize>) -> Option<usize>
-    ensures { (old new : Named (List Item)) → HasOneMore old new → AreFew most old → AreFew result new }
-{
-    match most {
-        Some(count) => count.checked_add(1),
-        None => None,
-    }
-}
-
-/// Whether no ref has more versions than one beside one for each live number.
-fn are_few(most: Option<usize>, live: usize) -> bool
-    ensures { (versions : Named (List Item)) → result ≡ true → AreFew most versions → AreFew (Some (live + 1)) versions }
-{
-    match most {
-        Some(count) => count.saturating_sub(1) <= live,
-        None => false,
-    }
-}
-
 /// Whether the ref has room for a version or several versions.
 fn is_busy(refs: &BTreeMap<Name, Versions>, name: &Name) -> bool
     ensures { result ≡ has_busy (named name.now refs.now.entries) }
@@ -216,25 +202,38 @@ fn make_room(
     }
 }
 
-fn commit(refs: &mut BTreeMap<Name, Versions>, mut writes: Vec<(Name, Value)>, number: u64)
+/// Adds the versions of the writes, and says how many versions a ref has at most, of which none had more than so many.
+fn commit(
+    refs: &mut BTreeMap<Name, Versions>,
+    mut writes: Vec<(Name, Value)>,
+    number: u64,
+    mut most: usize,
+) -> usize
     requires rises { Rises refs.old.entries }
     requires order { Rises writes.items }
     requires ready { All (λ write. IsReady number refs.old.entries write.0) writes.items }
-    ensures { AreAdded writes.items number refs.old.entries refs.new.entries }
+    ensures added { AreAdded writes.items number refs.old.entries refs.new.entries }
+    ensures few { AreFew most (versions_in refs.old.entries) → AreFew result (versions_in refs.new.entries) }
 {
     while let Some(write) = writes.pop() {
         let (name, value) = write;
-        add(refs, &name, Version { number, value });
+        most = most.max(add(refs, &name, Version { number, value }));
     }
+    most
 }
 
-/// Adds the version as the newest of the ref.
-fn add(refs: &mut BTreeMap<Name, Versions>, name: &Name, version: Version)
+/// Adds the version as the newest of the ref, and says how many it has then.
+fn add(refs: &mut BTreeMap<Name, Versions>, name: &Name, version: Version) -> usize
     requires rises { Rises refs.old.entries }
     requires ready { IsReady version.number refs.old.entries name.now }
-    ensures { IsAdded name.now version refs.old.entries refs.new.entries }
+    ensures added { IsAdded name.now version refs.old.entries refs.new.entries }
+    ensures count { length (versions_of (versions_in refs.new.entries) name.now) ≡ result }
 {
-    if let Some(versions) = refs.get_mut(name) {
-        versions.push(version);
+    match refs.get_mut(name) {
+        Some(versions) => {
+            versions.push(version);
+            versions.count()
+        }
+        None => unreachable!(),
     }
 }

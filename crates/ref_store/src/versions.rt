@@ -93,6 +93,13 @@ impl Versions {
         self.room() > 0 || self.all.len() > 1
     }
 
+    /// How many versions there are. It takes no memory.
+    pub(crate) fn count(&self) -> usize
+        ensures { length self.now.items ≡ result }
+    {
+        self.all.len()
+    }
+
     /// How many versions there are, where there is room for one more or a version beside the newest. It takes no memory.
     pub(crate) fn count_if_busy(&self) -> Option<usize>
         ensures idle { IsNone result → is_busy self.now ≡ false }

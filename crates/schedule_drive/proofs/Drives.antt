@@ -1,14 +1,15 @@
 -- What a drive appends.
 use Rattle.std.proofs.Common.{◌≡◌, ◌∙◌, ◌++◌, ◌∷◌, [], Bool, true, false, List, sym, ap, append_assoc, append-nil}
-use Rattle.schedule_drive.proofs.Gives.{gave_appends}
 use Rattle.schedule_drive.specs.Drive.{Abandons, Comes, Does, DoesIf, Drives, Stage, can_do}
-use Rattle.schedule_drive.specs.Entries.{Appends, entries_told, entry_told}
+use Rattle.schedule_drive.specs.Entries.{entries_told, entry_told}
 use Rattle.schedule_drive.specs.Laws.{DriveAppends}
 use Rattle.schedule_drive.specs.declared.told.Told.{Told}
 use Rattle.schedule_drive.specs.declared.told.Told.TheVariants as told
 use Rattle.schedule_text.specs.declared.line.Line.{Line}
 use Rattle.schedule_text.specs.declared.line.Line.TheVariants as line
 use Rattle.serial_model.specs.declared.entry.Entry.{Entry}
+use Rattle.shared_world.proofs.Later.{gave-appends}
+use Rattle.shared_world.specs.Later.{Appends}
 use Rattle.shared_world.specs.Returned.{Returned}
 use Rattle.shared_world.specs.Shared.{Shared}
 use Rattle.value_core.specs.Named.{Named}
@@ -27,17 +28,17 @@ appends_more a b c first second one two = record {
 -- what a line appends
 does_appends : (l : Line) (g : Stage) (said : Told) (h : Stage) → Does l g said h → Appends (entry_told said) g.world h.world
 does_appends (line.Go name) g (told.Answered found) h does =
-    appends_more g.world does.0.between h.world [] _ (same_history g.world does.0.between _ does.0.runs.claimed.claim.rest) (gave_appends does.0.between h.world does.0.done found does.0.gave)
+    appends_more g.world does.0.between h.world [] _ (same_history g.world does.0.between _ does.0.runs.claimed.claim.rest) (gave-appends does.0.between h.world does.0.done found does.0.gave)
 does_appends (line.Go name) g told.Kept h does = absurd does
 does_appends (line.Go name) g told.NotReady h does = absurd does
 does_appends (line.Hold name) g told.Kept h does = same_history g.world h.world _ does.runs.claimed.claim.rest
 does_appends (line.Hold name) g (told.Answered found) h does = absurd does
 does_appends (line.Hold name) g told.NotReady h does = absurd does
-does_appends (line.Back name) g (told.Answered found) h does = gave_appends g.world h.world does.done found does.gave
+does_appends (line.Back name) g (told.Answered found) h does = gave-appends g.world h.world does.done found does.gave
 does_appends (line.Back name) g told.Kept h does = absurd does
 does_appends (line.Back name) g told.NotReady h does = absurd does
 does_appends (line.Turn name) g (told.Answered found) h does =
-    appends_more g.world does.0.between h.world [] _ (same_history g.world does.0.between _ does.0.runs.claimed.claim.rest) (gave_appends does.0.between h.world does.0.done found does.0.gave)
+    appends_more g.world does.0.between h.world [] _ (same_history g.world does.0.between _ does.0.runs.claimed.claim.rest) (gave-appends does.0.between h.world does.0.done found does.0.gave)
 does_appends (line.Turn name) g told.Kept h does = absurd does
 does_appends (line.Turn name) g told.NotReady h does = absurd does
 

@@ -1,4 +1,3 @@
 pub mod Drives
-pub mod Gives
 pub mod SoFar
 pub mod Wants

@@ -1,7 +1,6 @@
 -- A world that is driven by the lines of a schedule.
 use Rattle.std.specs.Prelude.{◌≡◌, ◌∷◌, ◌&&◌, [], ℕ, Bool, true, false, List, Some, is_some, not}
 use Rattle.interleave_core.specs.Claims.{IsAbandoned, IsClaimOn}
-use Rattle.schedule_drive.specs.Entries.{Appends}
 use Rattle.schedule_drive.specs.Report.{report_text}
 use Rattle.serial_model.specs.declared.entry.Entry.{Entry}
 use Rattle.schedule_drive.specs.declared.told.Told.{Told}
@@ -10,6 +9,7 @@ use Rattle.schedule_text.specs.declared.line.Line.{Line}
 use Rattle.schedule_text.specs.declared.line.Line.TheVariants as line
 use Rattle.shared_world.specs.declared.given.Given.{Given}
 use Rattle.shared_world.specs.Gave.{Gave}
+use Rattle.shared_world.specs.Later.{Appends}
 use Rattle.shared_world.specs.Returned.{Returned}
 use Rattle.shared_world.specs.rows.Attempts.{IsWithout}
 use Rattle.shared_world.specs.Shared.{Shared, ready}

@@ -10,7 +10,7 @@ use interleave_core::World;
 use schedule_text::Lines;
 use std::alloc::{AllocError, Global};
 use std::collections::BTreeMap;
-use value_core::{Name, Seq, Text};
+use value_core::{Name, Text};
 use world_claim::Done;
 
 /// Drives the world by the lines, and gives the report of what came of each. The program is the world's. The claims of
@@ -44,7 +44,7 @@ fn do_lines(
     ensures driven { IfOk result (λ text. IsDrivenSo lines.now world.old text world.new kept.new.entries) }
     ensures later { OnErr result (IsLater world.old world.new) }
 {
-    let mut report = Seq::new(alloc);
+    let mut report = Text::new(alloc);
     let mut number = 1;
     for line in lines.items() {
         let told = do_line(world, kept, alloc, program, line)?;

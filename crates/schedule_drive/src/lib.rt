@@ -9,5 +9,5 @@ mod report;
 mod told;
 
 pub use driving::drive;
-pub use laws::{drive_appends, gave_appends};
+pub use laws::drive_appends;
 pub use told::Told;

@@ -55,8 +55,40 @@ pub const KEPT_TOO_LONG: Row<'static> = Row {
     printed: "10\n",
 };
 
+/// The messages of each sender are taken in the order in which they were sent, from the first sender that has one.
+pub const MESSAGES: Row<'static> = Row {
+    source: "(def log (behavior [] [who n] (println who n)))\n(def l (spawn log))\n(fork (do (send l \"a\" 1) (send l \"a\" 2) (send l \"a\" 3)))\n(fork (do (send l \"b\" 1) (send l \"b\" 2) (send l \"b\" 3)))",
+    script: "go 0\ngo 0\ngo 0\ngo 0.1\ngo 0.2\nturn 0.0\ngo 0.0.0\ngo 0.0.0\nturn 0.0\ngo 0.0.1\ngo 0.0.1\n",
+    report: "1 settled run 0\n2 settled run 0\n3 settled run 0\n4 settled run 0.1\n5 settled run 0.2\n6 settled take 0.0 0.1\n7 settled run 0.0.0\n8 settled run 0.0.0\n9 settled take 0.0 0.2\n10 settled run 0.0.1\n11 settled run 0.0.1\n",
+    printed: "a 1\nb 1\na 2\na 3\nb 2\nb 3\n",
+};
+
+/// What a turn asks its actor to become is there at the next message.
+pub const BECOMES: Row<'static> = Row {
+    source: "(def counter (behavior [n] [k] (println (+ n k)) (become counter (+ n k))))\n(def c (spawn counter 10))\n(send c 1)\n(send c 2)",
+    script: "go 0\ngo 0\ngo 0\nturn 0.0\nturn 0.0\ngo 0.0.0\ngo 0.0.0\ngo 0.0.0\nturn 0.0\ngo 0.0.1\n",
+    report: "1 settled run 0\n2 settled run 0\n3 settled run 0\n4 settled take 0.0 0\n5 not-ready\n6 settled run 0.0.0\n7 settled run 0.0.0\n8 settled run 0.0.0\n9 settled take 0.0 0\n10 settled run 0.0.1\n",
+    printed: "11\n13\n",
+};
+
+/// A transaction that makes an actor and sends to it: both are there when it has committed.
+pub const COMMITTED_SEND: Row<'static> = Row {
+    source: "(def b (behavior [] [x] (println x))) (dosync (let [a (spawn b)] (send a 4) nil))",
+    script: "go 0\ngo 0.0\ngo 0.0\nturn 0.0.0\ngo 0.0\ngo 0\nturn 0.0.0\ngo 0.0.0.0\ngo 0.0.0.0\n",
+    report: "1 began 0\n2 local\n3 local\n4 not-ready\n5 settled run 0\n6 settled run 0\n7 settled take 0.0.0 0\n8 settled run 0.0.0.0\n9 settled run 0.0.0.0\n",
+    printed: "4\n",
+};
+
+/// An actor that sends to the actor that it is.
+pub const OWN_ACTOR: Row<'static> = Row {
+    source: "(def b (behavior [] [n] (println n) (when (= n 1) (send (self) 2))))\n(send (spawn b) 1)",
+    script: "go 0\ngo 0\nturn 0.0\ngo 0.0.0\ngo 0.0.0\ngo 0.0.0\ngo 0.0.0\nturn 0.0\n",
+    report: "1 settled run 0\n2 settled run 0\n3 settled take 0.0 0\n4 settled run 0.0.0\n5 settled run 0.0.0\n6 settled run 0.0.0\n7 settled run 0.0.0\n8 settled take 0.0 0.0.0\n",
+    printed: "1\n2\n",
+};
+
 /// Sources, and what their run prints, in whatever order it goes.
-pub const PRINTED: [(&str, &str); 8] = [
+pub const PRINTED: [(&str, &str); 11] = [
     (
         "(def r (ref 0)) (println (dosync (let [f (fork (ref-set r 1))] (ref-set r 2) (join f) @r)))",
         "1\n",
@@ -85,6 +117,18 @@ pub const PRINTED: [(&str, &str); 8] = [
     (
         "(def a (fork (println \"a\"))) (join a) (println \"b\")",
         "a\nb\n",
+    ),
+    (
+        "(def counter (behavior [n] [k] (println (+ n k)) (become counter (+ n k))))\n(def c (spawn counter 10))\n(send c 1)\n(send c 2)",
+        "11\n13\n",
+    ),
+    (
+        "(def b (behavior [] [x] (println x))) (dosync (let [a (spawn b)] (send a 4) nil))",
+        "4\n",
+    ),
+    (
+        "(def r (ref 0))\n(def reader (behavior [] [] (println \"r is\" @r)))\n(def a (spawn reader))\n(dosync (ref-set r 7) (send a))",
+        "r is 7\n",
     ),
 ];
 

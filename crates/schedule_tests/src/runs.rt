@@ -1,8 +1,8 @@
 ghost use Rattle.std.specs.Prelude.{◌≡◌, IfOk};
 
 use crate::rows::{
-    CHILD_READS_LATE, FAULT_UNDONE, KEPT, KEPT_TOO_LONG, PRINTED, Row, SCRIPTS, TWO_ATTEMPTS,
-    WRITE_SKEW,
+    BECOMES, CHILD_READS_LATE, COMMITTED_SEND, FAULT_UNDONE, KEPT, KEPT_TOO_LONG, MESSAGES,
+    OWN_ACTOR, PRINTED, Row, SCRIPTS, TWO_ATTEMPTS, WRITE_SKEW,
 };
 use core_syntax::Program;
 use interleave_core::World;
@@ -70,9 +70,6 @@ fn prints_after(
 
 fn is_so(alloc: Global, row: &Row) -> Result<bool, AllocError> {
     let program = Arc::new(alloc, program_of(alloc, row.source)?)?;
-    if !World::covers(&program) {
-        return Ok(false);
-    }
     let mut world = World::new(alloc, program.clone()?, Limits::default())?;
     goes_so(&mut world, alloc, &program, row)
 }
@@ -84,9 +81,6 @@ fn is_printed(
     printed: &str,
 ) -> Result<bool, AllocError> {
     let program = Arc::new(alloc, program_of(alloc, source)?)?;
-    if !World::covers(&program) {
-        return Ok(false);
-    }
     let mut world = World::new(alloc, program.clone()?, Limits::default())?;
     prints_after(&mut world, alloc, &program, script, printed)
 }
@@ -109,6 +103,15 @@ fn a_child_reads_what_was_there_at_its_fork(rt: HostRuntime) -> Result<(), Fail>
 fn a_kept_result_is_given_later(rt: HostRuntime) -> Result<(), Fail> {
     assert!(rt; is_so(rt.alloc(), &KEPT)?);
     assert!(rt; is_so(rt.alloc(), &KEPT_TOO_LONG)?);
+    Ok(())
+}
+
+#[test]
+fn actors_take_turns(rt: HostRuntime) -> Result<(), Fail> {
+    assert!(rt; is_so(rt.alloc(), &MESSAGES)?);
+    assert!(rt; is_so(rt.alloc(), &BECOMES)?);
+    assert!(rt; is_so(rt.alloc(), &COMMITTED_SEND)?);
+    assert!(rt; is_so(rt.alloc(), &OWN_ACTOR)?);
     Ok(())
 }
 

@@ -8,23 +8,19 @@ ghost use Rattle.serial_units.specs.Units.{AsksAt};
 use crate::now::Now;
 use serial_model::{Effect, What};
 use serial_units::Becoming;
+use shared_map::SharedMap;
 use std::alloc::{AllocError, Global};
 use std::collections::BTreeMap;
-use task_log::TaskLog;
+use task_log::{TaskLog, list_effects};
 use value_core::name_map::put;
 use value_core::{Name, Value};
 
 /// The refs, with what is written.
-fn put_over(
-    alloc: Global,
-    refs: &mut BTreeMap<Name, Value>,
-    writes: &BTreeMap<Name, Value>,
-) -> Result<(), AllocError>
-    ensures { OnOk result (refs.new.entries ≡ over writes.now.entries refs.old.entries) }
+fn put_over(refs: &mut BTreeMap<Name, Value>, writes: &SharedMap<Value>) -> Result<(), AllocError>
+    ensures { OnOk result (refs.new.entries ≡ over writes.now refs.old.entries) }
 {
-    for (name, value) in writes {
-        let value = value.copy(alloc)?;
-        put(refs, name.copy(alloc)?, value)?;
+    for (name, value) in writes.entries()? {
+        put(refs, name, value)?;
     }
     Ok(())
 }
@@ -80,8 +76,10 @@ impl Now {
         requires { AsksAt name.now self.old.units }
         ensures { OnOk result ((setup : Setup) → Does setup name.now self.old self.new (λ s unit. row.commits s name.now unit log value)) }
     {
-        put_over(alloc, &mut self.refs, log.writes())?;
-        let becomes = self.take_effects(alloc, name, log.into_effects())?;
+        put_over(&mut self.refs, log.writes())?;
+        let effects = list_effects(alloc, log.effects())?;
+        drop(log);
+        let becomes = self.take_effects(alloc, name, effects)?;
         self.reply(alloc, name, true, becomes, value)
     }
 }

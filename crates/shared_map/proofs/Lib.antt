@@ -1,3 +1,4 @@
 pub mod Crossing
 pub mod Entries
+pub mod NameLaws
 pub mod Unfolded

@@ -5,5 +5,7 @@ mod in_order;
 mod node;
 mod putting;
 mod shared_map;
+mod shared_names;
 
 pub use shared_map::SharedMap;
+pub use shared_names::SharedNames;

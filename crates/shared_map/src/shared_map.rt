@@ -1,8 +1,9 @@
-ghost use Rattle.std.specs.Prelude.{◌≡◌, [], OnErr, OnOk, IfOk, option_copied};
+ghost use Rattle.std.specs.Prelude.{◌≡◌, [], OnErr, OnOk, IfOk, is_some, option_copied};
+ghost use Rattle.shared_map.specs.Names.{names_of};
 ghost use Rattle.shared_map.specs.Trees.{tree_items};
-ghost use Rattle.value_core.specs.Named.{Rises, named, with_named};
+ghost use Rattle.value_core.specs.Named.{Rises, named, over, with_named};
 
-use crate::in_order::push_all;
+use crate::in_order::{push_all, push_names};
 use crate::node::{Entry, Node, share};
 use crate::putting::with_entry;
 use std::alloc::{AllocError, Global};
@@ -64,20 +65,49 @@ impl<V: Drop> SharedMap<V> {
 
     /// What stands under the name, where something does. It takes no memory.
     pub fn get(&self, name: &Name) -> Option<&V>
-        ensures { option_copied result ≡ named name.now self.now }
+        ensures value { option_copied result ≡ named name.now self.now }
+        ensures rises { Rises self.now }
     {
         found(&self.root, name)
+    }
+
+    /// Whether something stands under the name. It takes no memory.
+    pub fn contains(&self, name: &Name) -> bool
+        ensures { result ≡ is_some (named name.now self.now) }
+    {
+        self.get(name).is_some()
+    }
+
+    /// The names of the entries, in after-order.
+    pub fn names(&self) -> Result<Vec<Name>, AllocError>
+        ensures items { IfOk result (λ names. names.items ≡ names_of self.now) }
+        ensures rises { Rises self.now }
+    {
+        let mut names = Vec::new(self.alloc);
+        push_names(self.alloc, &mut names, &self.root)?;
+        Ok(names)
     }
 }
 
 impl<V: Copied> SharedMap<V> {
     /// Equal entries, in after-order.
     pub fn entries(&self) -> Result<Vec<(Name, V)>, AllocError>
-        ensures { IfOk result (λ entries. entries.items ≡ self.now) }
+        ensures items { IfOk result (λ entries. entries.items ≡ self.now) }
+        ensures rises { Rises self.now }
     {
         let mut entries = Vec::new(self.alloc);
         push_all(self.alloc, &mut entries, &self.root)?;
         Ok(entries)
+    }
+
+    /// Puts equal entries of the other map over those that are there. For want of memory some of them may be there.
+    pub fn put_all(&mut self, more: &SharedMap<V>) -> Result<(), AllocError>
+        ensures { OnOk result (self.new ≡ over more.now self.old) }
+    {
+        for (name, value) in more.entries()? {
+            self.put(name, value)?;
+        }
+        Ok(())
     }
 }
 

@@ -7,14 +7,14 @@ use Rattle.serial_model.specs.declared.halt.Halt.TheVariants as halt
 use Rattle.serial_model.specs.declared.request.Request.TheVariants as request
 use Rattle.serial_model.specs.State.{UnitState}
 use Rattle.serial_model.specs.Step.{next_made, next_of}
+use Rattle.shared_world.proofs.Leading.{ahead-still, none-tried, now-kept, seen-same}
 use Rattle.shared_world.proofs.Live.{no-piece}
 use Rattle.shared_world.proofs.ActorPieces.{SameActors, actor_of_piece, actors-put, actors-set, unit-no-actor}
 use Rattle.shared_world.proofs.Standing.{now-is-newest, under-way}
 use Rattle.shared_world.proofs.States.{SameStates, machines-put, machines-set, task-put, unit-set}
-use Rattle.shared_world.proofs.Units.{IsHere}
 use Rattle.shared_world.specs.declared.given.Given.{Given}
 use Rattle.shared_world.specs.rows.Attempts.{Begins}
-use Rattle.shared_world.specs.Seen.{AttemptSeen, IsSeenAttempt}
+use Rattle.shared_world.specs.Seen.{AttemptSeen, IsSeenAttempt, live_with}
 use Rattle.shared_world.specs.Shared.{Shared, finished_at, is_going, state_at, unit_state}
 use Rattle.shared_world.specs.Stands.{IsMachine, IsUnderWay, Stands, start_of}
 use Rattle.task_fork_join.proofs.Begins.{new_attempts_run}
@@ -34,30 +34,26 @@ use Rattle.world_model.proofs.Kept.{gave-keeps}
 use Rattle.world_model.specs.Gave as row
 use Rattle.world_model.specs.rows.Attempts.{with_attempt}
 use Rattle.world_model.specs.World as world
-use Rattle.world_model.specs.World.{World, still}
+use Rattle.world_model.specs.World.{LiveUnit, World}
 
-module _ (old : Shared) (st : Stands old) (u : Name) (x : Unit) (here : IsHere old u (unit_state x)) where
+module _ (old : Shared) (st : Stands old) (u : Name) (x : Unit) (on_going : old.end ≡ None) (is_there : state_at old.board u ≡ Some (unit_state x)) (unfinished : (unit_state x).finished ≡ None) where
   abbrev w : World
   w = st.world
 
   abbrev unit : UnitState
   unit = unit_state x
 
-  none-seen : (tried : Option world.Attempt) → (found : Option Attempt) → found ≡ None → AttemptSeen old.versions found tried → tried ≡ None
-  none-seen None found e is = refl
-  none-seen (Some tried) found e is = absurd (subst (λ f. AttemptSeen old.versions f (Some tried)) e is)
-
   pub begins : (body : NodeId) (values : List Value) (at : Spot) → next_of old.setup unit ≡ halt.Ask (request.Dosync body values) at → named u old.attempts ≡ None
       → (found : Given) (new : Shared) → Begins old u x body values at found new → Stands new
   begins body values at asks none found new r = subst Stands (sym (r.others ∙ ap (λ all. record old { attempts = all; owners = new.owners; board = new.board }) r.attempts)) (record {
     formed = st.formed;
     world = with_attempt w u tried;
-    is_world = gave-keeps old.setup st.formed w (with_attempt w u tried) None st.is_world (row.begins_attempt u (still unit) tried (record {
-      there = st.seen.units u ∙ ap (option_map still) here.there;
-      none = none-seen (w.attempts u) (named u old.attempts) none (st.seen.attempts going u);
-      asks = asks;
-      root = refl;
-      unfinished = here.unfinished;
+    is_world = gave-keeps old.setup st.formed w (with_attempt w u tried) None st.is_world (row.begins_attempt u live tried (record {
+      there = st.seen.units u ∙ ap (option_map (live_with (named u old.aheads))) is_there;
+      none = none-tried old st going u none;
+      asks = subst (λ (k : UnitState). next_of old.setup k ≡ halt.Ask (request.Dosync body values) at) (sym now) asks;
+      root = ap (next_made u) (sym now);
+      unfinished = ap (λ (k : UnitState). k.finished) now ∙ unfinished;
       snapshot = ap length (sym st.seen.history);
       store = refl;
       reads = refl;
@@ -68,7 +64,7 @@ module _ (old : Shared) (st : Stands old) (u : Name) (x : Unit) (here : IsHere o
     seen = record {
       history = st.seen.history;
       refs = st.seen.refs;
-      units = λ q. st.seen.units q ∙ sym (ap (option_map still) (same q));
+      units = λ q. seen-same old st new.board q (same q);
       actors = λ a. st.seen.actors a ∙ sym (same_actors a);
       taken = st.seen.taken;
       mails = st.seen.mails;
@@ -81,11 +77,17 @@ module _ (old : Shared) (st : Stands old) (u : Name) (x : Unit) (here : IsHere o
         (machines-put (IsMachine old.setup) (next_made u unit) (Some (piece.Task (mark.Ready work.Eval))) old.board r.board (λ z e. cc) r.root st.machines);
     attempts = λ go v tree there. way v tree (same_name v u) refl (sym (named-with_named v u r.tree old.attempts) ∙ there);
     numbers = st.numbers;
-    definite = st.definite;
+    aheads = λ v h leads. ahead-still old.board new.board v h (same v) (st.aheads v h leads);
   })
     where
       going : is_going old.end ≡ true
-      going = ap is_going here.going
+      going = ap is_going on_going
+
+      live : LiveUnit
+      live = live_with (named u old.aheads) unit
+
+      now : live.now ≡ unit
+      now = now-kept (named u old.aheads) unit
 
       waiting : Mark
       waiting = mark.Waiting (wait.Finish (next_made u unit))
@@ -97,7 +99,7 @@ module _ (old : Shared) (st : Stands old) (u : Name) (x : Unit) (here : IsHere o
       same q = unit-set u r.waits.unit waiting r.board new.board r.waits.set q ∙ on (same_name q u) refl ∙ task-put (next_made u unit) (mark.Ready work.Eval) old.board r.board (no-piece old.board (next_made u unit) r.none) r.root q
         where
           kept : state_at r.board u ≡ Some unit
-          kept = task-put (next_made u unit) (mark.Ready work.Eval) old.board r.board (no-piece old.board (next_made u unit) r.none) r.root u ∙ here.there
+          kept = task-put (next_made u unit) (mark.Ready work.Eval) old.board r.board (no-piece old.board (next_made u unit) r.none) r.root u ∙ is_there
 
           on : (c : Bool) → same_name q u ≡ c → cond c (Some (unit_state r.waits.unit)) (state_at r.board q) ≡ state_at r.board q
           on true e = ap (λ k. Some k) r.waits.stands.state ∙ sym (ap (state_at r.board) (same_name-equal q u e) ∙ kept)
@@ -105,7 +107,7 @@ module _ (old : Shared) (st : Stands old) (u : Name) (x : Unit) (here : IsHere o
 
       same_actors : SameActors old.board new.board
       same_actors a =
-          actors-set u (piece.Unit r.waits.unit) waiting r.board new.board refl (put u ∙ unit-no-actor old.board u unit here.there) r.waits.set a ∙ put a
+          actors-set u (piece.Unit r.waits.unit) waiting r.board new.board refl (put u ∙ unit-no-actor old.board u unit is_there) r.waits.set a ∙ put a
         where
           put : SameActors old.board r.board
           put = actors-put (next_made u unit) (Some (piece.Task (mark.Ready work.Eval))) old.board r.board (sym (ap actor_of_piece r.none)) r.root
@@ -131,7 +133,7 @@ module _ (old : Shared) (st : Stands old) (u : Name) (x : Unit) (here : IsHere o
       own : IsUnderWay after u r.tree
       own = record {
         unit = unit;
-        there = same u ∙ here.there;
+        there = same u ∙ is_there;
         body = body;
         values = values;
         at = at;

@@ -2,11 +2,14 @@
 use Rattle.std.proofs.Common.{◌≡◌, ◌∙◌, ◌≤◌, ℕ, suc, Bool, true, false, cond, append-nil, length, length-append, List, [], ◌∷◌, ◌++◌, inr, refl, sym, ap, ap₂, subst, arith}
 use Rattle.std.specs.Option.{option_and_then, option_map, option_or}
 use Rattle.std.specs.Prelude.{Option, None, Some, All, Contains, IfSome, is_some, map}
-use Rattle.actor_mailbox.specs.Messages.{settle}
+use Rattle.actor_mailbox.specs.declared.message.Message.{Message}
+use Rattle.actor_mailbox.specs.Messages.{passes, settle}
 use Rattle.actor_mails.specs.Mails.{mail_at}
 use Rattle.ref_store.proofs.StoreLaws.{above_committed, above_pruned, read_below}
 use Rattle.ref_store.specs.declared.version.Version.{Version}
 use Rattle.ref_store.specs.Store.{IsAbove, committed, versions_of}
+use Rattle.serial_model.proofs.runs.LastTurns.{replay-sounder}
+use Rattle.serial_model.proofs.runs.Made.{IsMade}
 use Rattle.serial_model.specs.declared.effect.Effect.{Effect}
 use Rattle.serial_model.specs.declared.end.End.{End}
 use Rattle.serial_model.specs.declared.end.End.TheVariants as ending
@@ -23,10 +26,12 @@ use Rattle.shared_world.proofs.ActorPieces.{actor_of_piece}
 use Rattle.shared_world.proofs.Effects.{act-actors, act-machines, act-states, spawned-over}
 use Rattle.shared_world.proofs.Gone.{SeenAs, go-actors, go-machines, go-same, now-stays, reads-stay, seen-as, seen-stay, stayed}
 use Rattle.shared_world.proofs.Lists.{among-contains, named-among, names_of, none-there, over-read, values-all, values-so, values_of}
+use Rattle.shared_world.proofs.Leading.{finished-is-level, leads-apart, level-there, live_on, seen-here, seen-same, ahead-still}
 use Rattle.shared_world.proofs.Live.{state-there}
-use Rattle.shared_world.proofs.Sent.{AreDefinite, HasDoneLocally, HasPut, done-locally, mail-settles, none-unsettled, put-none, put_of, settled-definite, with_effects}
+use Rattle.shared_world.proofs.Sent.{HasDoneLocally, HasPut, done-locally, mail-settles, put-none, put_of, with_effects}
 use Rattle.shared_world.proofs.Standing.{Grows, ref-committed, under-way}
 use Rattle.shared_world.proofs.States.{machines-same, same-pieces}
+use Rattle.shared_world.proofs.Unsettled.{AreApart, all-settled, none-hang, only-name}
 use Rattle.shared_world.specs.declared.given.Given.{Given}
 use Rattle.shared_world.specs.rows.Actors.{spawned}
 use Rattle.shared_world.specs.rows.Attempts.{Commits}
@@ -54,6 +59,7 @@ use Rattle.value_core.specs.declared.value.Value.{Value}
 use Rattle.value_core.specs.Named.{Name, Named, Rises, is_among, named, same_name}
 use Rattle.value_core.specs.Place.{Spot}
 use Rattle.world_model.proofs.Kept.{gave-keeps}
+use Rattle.world_model.proofs.lists.Lists.{each-left, each-right, settle-others}
 use Rattle.world_model.specs.Gave as row
 use Rattle.world_model.specs.IsWorld.{IsWorld}
 use Rattle.world_model.specs.rows.Attempts.{Learns, learned, local, with_attempt}
@@ -62,8 +68,8 @@ use Rattle.world_model.specs.rows.Endings as end_row
 use Rattle.world_model.specs.rows.Endings.{EndsRun, ended_by}
 use Rattle.world_model.specs.StandsFor.{AttemptStands, IsAttempt, IsEnd}
 use Rattle.world_model.specs.World as world
-use Rattle.world_model.specs.World.{AttemptEnd, LiveUnit, World, still, with_at}
-use Rattle.world_model.specs.Message.{settled, unsettled}
+use Rattle.world_model.specs.World.{AttemptEnd, LiveUnit, World, line, still, with_at}
+use Rattle.world_model.specs.Message.{settled}
 use Rattle.serial_model.specs.Log.{Log}
 use Rattle.unit_table.specs.Piece.{unit_in}
 
@@ -71,7 +77,7 @@ use Rattle.unit_table.specs.Piece.{unit_in}
 unchanged-reads : (versions : Named (List Version)) (snapshot : ℕ) (r : Name) → IsUnchanged versions snapshot r → ref_now versions r ≡ snapshot_of versions snapshot r
 unchanged-reads versions snapshot r is = sym (ap (option_map (λ (v : Version). v.value)) (late_at snapshot (versions_of versions r) is))
 
-module _ (old : Shared) (st : Stands old) (on_going : old.end ≡ None) (u : Name) (x : Unit) (tree : Attempt) (unit_there : unit_at old.board u ≡ Some x) (there : named u old.attempts ≡ Some tree)
+module _ (old : Shared) (st : Stands old) (on_going : old.end ≡ None) (u : Name) (x : Unit) (tree : Attempt) (unit_there : unit_at old.board u ≡ Some x) (there : named u old.attempts ≡ Some tree) (level : named u old.aheads ≡ None)
     (ended : TaskEnd) (is_ended : end_at tree ≡ Some ended) (valid : All (IsUnchanged old.versions tree.snapshot) tree.reads) (effects : List Effect) (writes : Named Value)
     (so : (v : Value) → outcome_of ended ≡ outcome.Value v → (t : Task) → named tree.root tree.tasks ≡ Some t → (t.log.log.writes ≡ writes) × (t.log.log.effects ≡ effects)) where
   abbrev w : World
@@ -96,7 +102,7 @@ module _ (old : Shared) (st : Stands old) (on_going : old.end ≡ None) (u : Nam
   same_unit = let both : Some way.unit ≡ Some unit = sym way.there ∙ state-there old.board u x unit_there in cc
 
   live : w.units u ≡ Some (still unit)
-  live = st.seen.units u ∙ ap (option_map still) (state-there old.board u x unit_there)
+  live = level-there old st u unit level (state-there old.board u x unit_there)
 
   attempt : IsAttempt old.setup u (still unit) tried
   attempt = subst (λ found. AttemptStands old.setup u (Some (still unit)) found) seen.there (subst (λ found. AttemptStands old.setup u found (w.attempts u)) live (st.is_world.stands.attempts u))
@@ -145,14 +151,23 @@ module _ (old : Shared) (st : Stands old) (on_going : old.end ≡ None) (u : Nam
   abbrev w2 : World
   w2 = with_attempt w1 u tried2
 
-  -- no message waits that is not settled
+  made : IsMade st.is_world.state
+  made = (replay-sounder old.setup st.formed w.history st.is_world.state st.is_world.replays).sound.made
+
+  -- no message depends on the attempt
+  apart-line : (a : Name) → AreApart (same_name tried.root) (line w a)
+  apart-line a = none-hang old.setup w st.is_world.state st.is_world.stands made u tried seen.there seen.is.effects (same_name tried.root) (only-name tried.root) a
+
+  apart-mail : (a : Name) → AreApart (same_name tried.root) (mail_at old.mails a)
+  apart-mail a = subst (AreApart (same_name tried.root)) (st.seen.mails a) (each-right (λ (m : Message). passes (same_name tried.root) m.depends ≡ false) (w.taken a) (w.mails a) (apart-line a))
+
+  -- none of the unit is unsettled
   put : HasPut w u unit tried
   put = record {
     live = live;
     attempt = seen.there;
     in_line = λ b.
-        ap₂ (λ taken mails. unsettled u (taken ++ mails)) (st.seen.taken b) (st.seen.mails b)
-        ∙ none-unsettled u (mail_at old.mails b) (st.definite b)
+        all-settled old.setup w st.is_world.state st.is_world.stands made u tried seen.there seen.is.effects unit live b
         ∙ sym (ap (λ es. put_of u tried.root (w.actors b) (effects_to b es)) seen.is.effects ∙ put-none u tried.root (w.actors b));
   }
 
@@ -221,7 +236,7 @@ module _ (old : Shared) (st : Stands old) (on_going : old.end ≡ None) (u : Nam
           on : (found : Option UnitState) → state_at old.board f ≡ found → option_and_then (λ (k : UnitState). k.finished) found ≡ Some v
               → (y : LiveUnit) × (w1.units f ≡ Some y) × (y.takes ≡ None) × (y.from.finished ≡ Some v)
           on None e so = cc
-          on (Some k) e so = (still k, units1 f ∙ st.seen.units f ∙ ap (option_map still) e, refl, so)
+          on (Some k) e so = (still k, units1 f ∙ level-there old st f k (finished-is-level old st f v is) e, refl, so)
 
   is_w2 : IsWorld old.setup w2
   is_w2 = gave-keeps old.setup st.formed w1 w2 None is_w1 (row.learns u (still unit) tried1 tree.reads joined (Some result) learns)
@@ -250,7 +265,7 @@ module _ (old : Shared) (st : Stands old) (on_going : old.end ≡ None) (u : Nam
     seen = record {
       history = ap (λ (k : World). k.history ++ Run u ∷ []) did.rest ∙ ap (λ h. h ++ Run u ∷ []) st.seen.history;
       refs = λ q. ap (λ (k : World). k.refs q) did.rest ∙ st.seen.refs q;
-      units = λ q. units1 q ∙ st.seen.units q ∙ sym (ap (option_map still) (same-pieces old.board new.board r.pieces q));
+      units = λ q. units1 q ∙ seen-same old st new.board q (same-pieces old.board new.board r.pieces q);
       actors = λ a. ap (λ (k : World). k.actors a) did.rest ∙ st.seen.actors a ∙ sym (ap actor_of_piece (r.pieces a));
       taken = λ a. ap (λ (k : World). k.taken a) did.rest ∙ st.seen.taken a;
       mails = λ a. did.mails a ∙ ap (λ es. w.mails a ++ put_of u tried.root (w.actors a) (effects_to a es)) none ∙ ap (λ ms. w.mails a ++ ms) (put-none u tried.root (w.actors a)) ∙ append-nil (w.mails a) ∙ st.seen.mails a;
@@ -262,7 +277,7 @@ module _ (old : Shared) (st : Stands old) (on_going : old.end ≡ None) (u : Nam
     machines = machines-same (IsMachine old.setup) old.board new.board r.pieces st.machines;
     attempts = λ g v t is. cc;
     numbers = λ q k d in_range. let long = length-append old.history (Run u ∷ []) in let below = st.numbers q k d in_range in omega (arith, long, below);
-    definite = st.definite;
+    aheads = λ k h leads. ahead-still old.board new.board k h (same-pieces old.board new.board r.pieces k) (st.aheads k h leads);
   })
 
   -- the attempt commits
@@ -299,13 +314,13 @@ module _ (old : Shared) (st : Stands old) (on_going : old.end ≡ None) (u : Nam
     states : (q : Name) → state_at new.board q ≡ cond (same_name q u) (Some unit_after) (state_at old.board q)
     states = act-states r.log.log.effects old new r.board r.acts u x unit_there unit_after (go-same u x r.unit tree old.board r.board unit_there r.goes.tasks unit_after r.stands.state)
 
-    units : (q : Name) → w3.units q ≡ option_map still (state_at new.board q)
-    units q = on (same_name q u) (states q)
+    units : (q : Name) → w3.units q ≡ live_on old st new.board q
+    units q = on (same_name q u) refl (states q)
       where
-        on : (c : Bool) → state_at new.board q ≡ cond c (Some unit_after) (state_at old.board q)
-            → cond c (Some (still (answered (with_made (effects_unit (tried.effects ++ effects) unit)) v))) (w2.units q) ≡ option_map still (state_at new.board q)
-        on true e = ap (λ es. Some (still (answered (with_made (effects_unit es unit)) v))) all_effects ∙ sym (ap (option_map still) e)
-        on false e = units1 q ∙ st.seen.units q ∙ sym (ap (option_map still) e)
+        on : (c : Bool) → same_name q u ≡ c → state_at new.board q ≡ cond c (Some unit_after) (state_at old.board q)
+            → cond c (Some (still (answered (with_made (effects_unit (tried.effects ++ effects) unit)) v))) (w2.units q) ≡ live_on old st new.board q
+        on true same e = ap (λ es. Some (still (answered (with_made (effects_unit es unit)) v))) all_effects ∙ seen-here old st new.board u q unit_after level same e
+        on false other e = units1 q ∙ seen-same old st new.board q e
 
     actors : (a : Name) → w3.actors a ≡ actor_at new.board a
     actors a =
@@ -319,7 +334,7 @@ module _ (old : Shared) (st : Stands old) (on_going : old.end ≡ None) (u : Nam
 
     mails : (a : Name) → w3.mails a ≡ mail_at new.mails a
     mails a =
-        mail-settles w2 u unit tried2 a (mail_at old.mails a) put2 (st.definite a) in_mail
+        mail-settles w2 u unit tried2 a (mail_at old.mails a) put2 (apart-mail a) in_mail
         ∙ ap (λ es. mail_at old.mails a ++ map (settled u) (effects_to a es)) all_effects
         ∙ sym (r.mails a)
       where
@@ -372,7 +387,7 @@ module _ (old : Shared) (st : Stands old) (on_going : old.end ≡ None) (u : Nam
         refs = refs;
         units = units;
         actors = actors;
-        taken = λ a. ap (settle (same_name tried.root)) (ap (λ (k : World). k.taken a) did.rest ∙ st.seen.taken a);
+        taken = λ a. ap (λ (k : World). settle (same_name tried.root) (k.taken a)) did.rest ∙ settle-others (same_name tried.root) (w.taken a) (each-left (λ (m : Message). passes (same_name tried.root) m.depends ≡ false) (w.taken a) (w.mails a) (apart-line a)) ∙ st.seen.taken a;
         mails = mails;
         attempts = λ g k. seen-stay old st going u new.attempts r.goes.attempts versions new.versions before r.versions (λ q. with_at w2.attempts u None q) others (ap (λ c. cond c None (w2.attempts u)) (same_name-itself u)) k;
         bytes = ap (λ (k : World). k.bytes ++ effects_bytes (tried.effects ++ effects)) did.rest ∙ ap (λ b. b ++ effects_bytes (tried.effects ++ effects)) st.seen.bytes ∙ ap (λ es. old.bytes ++ effects_bytes es) all_effects;
@@ -384,11 +399,11 @@ module _ (old : Shared) (st : Stands old) (on_going : old.end ≡ None) (u : Nam
           let stay = stayed old st going u new.attempts r.goes.attempts k t is in
           under-way old after k t refl (apart k stay.0) (λ q. reads-stay old st going u new.attempts r.goes.attempts versions new.versions r.versions k t is q ∙ before k t is q) grows longer (st.attempts going k t stay.1);
       numbers = above_pruned r.versions.live versions new.versions r.versions.pruned (suc (length (old.history ++ Run u ∷ []))) above;
-      definite = λ a. subst AreDefinite (sym (r.mails a)) (settled-definite u (mail_at old.mails a) (effects_to a r.log.log.effects) (st.definite a));
+      aheads = λ k h leads. ahead-still old.board new.board k h (apart k (leads-apart old st u level k h leads)) (st.aheads k h leads);
     })
 
 -- what a valid attempt comes to
-module _ (old : Shared) (st : Stands old) (on_going : old.end ≡ None) (u : Name) (x : Unit) (tree : Attempt) (unit_there : unit_at old.board u ≡ Some x) (there : named u old.attempts ≡ Some tree)
+module _ (old : Shared) (st : Stands old) (on_going : old.end ≡ None) (u : Name) (x : Unit) (tree : Attempt) (unit_there : unit_at old.board u ≡ Some x) (there : named u old.attempts ≡ Some tree) (level : named u old.aheads ≡ None)
     (valid : All (IsUnchanged old.versions tree.snapshot) tree.reads) where
   -- without a value nothing is done
   module _ (ended : TaskEnd) (is_ended : end_at tree ≡ Some ended) (no_value : (v : Value) → outcome_of ended ≡ outcome.Value v → ⊥) where
@@ -397,19 +412,19 @@ module _ (old : Shared) (st : Stands old) (on_going : old.end ≡ None) (u : Nam
 
     pub failed : (failed : Code) (place : Spot) → outcome_of ended ≡ outcome.Fault failed place → (found : Given) (new : Shared) → Ends old u (ending.Fault failed place u) found new → Stands new
     failed code place is found new r =
-        ends-run old st on_going u x tree unit_there there ended is_ended valid [] [] nothing refl (ending.Fault code place u) found new r
-        (end_row.attempt_fault u (still (unit_state x)) _ _ code place (over old st on_going u x tree unit_there there ended is_ended valid [] [] nothing) is)
+        ends-run old st on_going u x tree unit_there there level ended is_ended valid [] [] nothing refl (ending.Fault code place u) found new r
+        (end_row.attempt_fault u (still (unit_state x)) _ _ code place (over old st on_going u x tree unit_there there level ended is_ended valid [] [] nothing) is)
 
     pub spent : outcome_of ended ≡ outcome.Spent → (found : Given) (new : Shared) → Ends old u (ending.Spent u) found new → Stands new
     spent is found new r =
-        ends-run old st on_going u x tree unit_there there ended is_ended valid [] [] nothing refl (ending.Spent u) found new r
-        (end_row.attempt_spent u (still (unit_state x)) _ _ (over old st on_going u x tree unit_there there ended is_ended valid [] [] nothing) is)
+        ends-run old st on_going u x tree unit_there there level ended is_ended valid [] [] nothing refl (ending.Spent u) found new r
+        (end_row.attempt_spent u (still (unit_state x)) _ _ (over old st on_going u x tree unit_there there level ended is_ended valid [] [] nothing) is)
 
   pub end-keeps : (ended : TaskEnd) → end_at tree ≡ Some ended → (found : Given) (new : Shared) → EndGives old u x tree ended found new → Stands new
   end-keeps (end.Fault code place) is found new r = failed (end.Fault code place) is (λ v e. cc) code place refl found new r
   end-keeps end.Spent is found new r = spent end.Spent is (λ v e. cc) refl found new r
   end-keeps (end.Value v) is found new r =
-      commits old st on_going u x tree unit_there there (end.Value v) is valid r.log.log.effects r.log.log.writes done v found new refl r refl refl
+      commits old st on_going u x tree unit_there there level (end.Value v) is valid r.log.log.effects r.log.log.writes done v found new refl r refl refl
     where
       done : (k : Value) → outcome.Value v ≡ outcome.Value k → (t : Task) → named tree.root tree.tasks ≡ Some t → (t.log.log.writes ≡ r.log.log.writes) × (t.log.log.effects ≡ r.log.log.effects)
       done k e t is_t =

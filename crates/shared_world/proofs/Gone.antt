@@ -1,18 +1,17 @@
 -- An attempt that is gone, with its tasks, leaves what is kept standing.
 use Rattle.std.proofs.Common.{◌≡◌, ◌∙◌, ℕ, suc, Bool, true, false, cond, length, le_refl, List, [], ◌∷◌, ◌++◌, refl, sym, ap, subst}
 use Rattle.std.specs.Option.{option_and_then, option_map}
-use Rattle.std.proofs.lemmas.List.Elements.{All-head, All-tail}
-use Rattle.std.specs.List.{All}
-use Rattle.std.specs.Prelude.{Option, None, Some, if◌then◌else◌, is_some, not}
+use Rattle.std.specs.Prelude.{Option, None, Some, is_some}
 use Rattle.actor_mailbox.specs.declared.message.Message.{Message}
-use Rattle.actor_mails.specs.Mails.{mail_at}
 use Rattle.ref_store.proofs.StoreLaws.{above_pruned}
 use Rattle.ref_store.specs.declared.version.Version.{Version}
 use Rattle.serial_model.specs.State.{UnitState}
 use Rattle.shared_world.proofs.ActorPieces.{SameActors, actor_of_piece, gone-actor, not-same, unit-no-actor}
+use Rattle.shared_world.proofs.Leading.{live_on, seen-same, ahead-still}
 use Rattle.shared_world.proofs.Live.{state-there}
 use Rattle.shared_world.proofs.Standing.{under-way}
 use Rattle.shared_world.proofs.States.{EachMachine, SameStates, gone-same}
+use Rattle.shared_world.proofs.Unsettled.{AreApart, none-hang}
 use Rattle.shared_world.specs.declared.given.Given.{Given}
 use Rattle.shared_world.specs.rows.Attempts.{Aborts, ArePrunedFor, IsWithout, TasksGo}
 use Rattle.shared_world.specs.rows.Pieces.{task_gone}
@@ -29,6 +28,7 @@ use Rattle.unit_table.specs.Piece.{unit_in}
 use Rattle.value_core.proofs.NamedLaws.{same_name-equal, same_name-itself}
 use Rattle.value_core.specs.Named.{Name, Named, named, same_name}
 use Rattle.world_model.proofs.Kept.{gave-keeps}
+use Rattle.world_model.proofs.lists.Lists.{each-left, each-right, without-others}
 use Rattle.world_model.proofs.records.Names.{maker, no-unit-of-root, root}
 use Rattle.serial_model.proofs.runs.LastTurns.{replay-sounder}
 use Rattle.world_model.specs.Dependence as depends
@@ -37,8 +37,8 @@ use Rattle.world_model.specs.Gave as row
 use Rattle.world_model.specs.rows.Undone.{undone, unless_gone}
 use Rattle.world_model.specs.StandsFor.{AttemptStands}
 use Rattle.world_model.specs.World as world
-use Rattle.world_model.specs.World.{LiveUnit, World, still}
-use Rattle.actor_mailbox.specs.Messages.{passes, without}
+use Rattle.world_model.specs.World.{LiveUnit, World, line}
+use Rattle.actor_mailbox.specs.Messages.{passes}
 use Rattle.eval_step.specs.Evaluation.{Evaluation}
 
 -- the pieces, as the meaning sees them, once the tasks are gone
@@ -61,13 +61,6 @@ go-actors u x y tree old new there go q = on (same_name q u) refl
         let is : q ≡ u = same_name-equal q u e in
         ap (actor_at new) is ∙ ap actor_of_piece go.here ∙ sym (ap (actor_at old) is ∙ unit-no-actor old u (unit_state x) (state-there old u x there))
     on false e = ap actor_of_piece (go.others q (not-same q u e)) ∙ gone-actor (piece_at old q) (is_some (named q tree.tasks))
-
--- messages that depend on nothing stay
-pub without-settled : (test : Name → Bool) (ms : List Message) → All (λ (m : Message). m.depends ≡ None) ms → without test ms ≡ ms
-without-settled test [] all = refl
-without-settled test (m ∷ ms) all =
-    ap (λ c. if c then m ∷ without test ms else without test ms) (ap (λ on. not (passes test on)) (All-head (λ (m : Message). m.depends ≡ None) m ms all))
-    ∙ ap (λ rest. m ∷ rest) (without-settled test ms (All-tail (λ (m : Message). m.depends ≡ None) m ms all))
 
 pub go-machines : (P : Evaluation → Type 0) (u : Name) (y : Unit) (tree : Attempt) (old new : Board) → P y.machine → TasksGo u y tree old new → EachMachine P old → EachMachine P new
 go-machines P u y tree old new is go all q z there = on (same_name q u) refl
@@ -158,10 +151,17 @@ module _ (old : Shared) (st : Stands old) (on_going : is_going old.end ≡ true)
   abbrev gone : Name → Bool
   gone n = same_name n tree.root
 
+  -- no message depends on it
+  apart : (a : Name) → AreApart gone (line w a)
+  apart a = none-hang old.setup w st.is_world.state st.is_world.stands (replay-sounder old.setup st.formed w.history st.is_world.state st.is_world.replays).sound.made u seen.tried seen.there seen.is.effects gone
+      (λ n is. same_name-equal n tree.root is ∙ sym seen.is.root) a
+
   -- nothing but its root hangs on the attempt
   hangs : (n : Name) → DependsOn w seen.tried.root n → gone n ≡ true
   hangs n (depends.itself same) = subst (λ k. same_name k tree.root ≡ true) (sym (same ∙ seen.is.root)) (same_name-itself tree.root)
-  hangs n (depends.turn a actor m on is took dep called rest) = let no : m ∷ [] ≡ [] = sym took ∙ st.seen.taken a in cc
+  hangs n (depends.turn a actor m on is took dep called rest) =
+      let first = subst (λ ms. AreApart gone (ms ++ w.mails a)) took (apart a) in
+      let no : true ≡ false = sym (hangs on rest) ∙ sym (ap (passes gone) dep) ∙ first.0 in cc
   hangs n (depends.attempt v other is called rest) =
       let at_root : v ≡ tree.root = same_name-equal v tree.root (hangs v rest) in
       absurd (subst (λ live. AttemptStands old.setup v live (Some other)) (ap w.units at_root ∙ no-root) (subst (AttemptStands old.setup v (w.units v)) is (st.is_world.stands.attempts v)))
@@ -180,8 +180,8 @@ module _ (old : Shared) (st : Stands old) (on_going : is_going old.end ≡ true)
       refs = λ q. st.seen.refs q ∙ sym (now-stays old st on_going u new.attempts r.goes.attempts old.versions new.versions r.versions q);
       units = λ q. units q (gone q) refl;
       actors = λ a. st.seen.actors a ∙ sym (go-actors u x r.unit tree old.board new.board unit_there r.goes.tasks a);
-      taken = λ a. ap (without gone) (st.seen.taken a);
-      mails = λ a. ap (without gone) (st.seen.mails a) ∙ without-settled gone (mail_at old.mails a) (st.definite a);
+      taken = λ a. without-others gone (w.taken a) (each-left (λ (m : Message). passes gone m.depends ≡ false) (w.taken a) (w.mails a) (apart a)) ∙ st.seen.taken a;
+      mails = λ a. without-others gone (w.mails a) (each-right (λ (m : Message). passes gone m.depends ≡ false) (w.taken a) (w.mails a) (apart a)) ∙ st.seen.mails a;
       attempts = λ going v. seen-stay old st on_going u new.attempts r.goes.attempts old.versions new.versions (λ k t is q. refl) r.versions (λ k. unless_gone gone (w.attempts k)) others here v;
       bytes = st.seen.bytes;
       made = st.seen.made;
@@ -193,7 +193,7 @@ module _ (old : Shared) (st : Stands old) (on_going : is_going old.end ≡ true)
         under-way old after v other refl (same v) (reads-stay old st on_going u new.attempts r.goes.attempts old.versions new.versions r.versions v other is)
         (λ f val fin. ap (option_and_then (λ (k : UnitState). k.finished)) (same f) ∙ fin) (le_refl (length old.history)) (st.attempts on_going v other stay.1);
     numbers = above_pruned r.versions.live old.versions new.versions r.versions.pruned (suc (length old.history)) st.numbers;
-    definite = st.definite;
+    aheads = λ v h leads. ahead-still old.board new.board v h (same v) (st.aheads v h leads);
   })
     where
       after : Shared
@@ -206,9 +206,9 @@ module _ (old : Shared) (st : Stands old) (on_going : is_going old.end ≡ true)
           on true e = sym (ap (state_at old.board) (same_name-equal q u e) ∙ state-there old.board u x unit_there)
           on false e = refl
 
-      units : (q : Name) (c : Bool) → gone q ≡ c → cond c None (w.units q) ≡ option_map still (state_at new.board q)
-      units q true e = sym (ap (option_map still) (same q) ∙ sym (st.seen.units q) ∙ ap w.units (same_name-equal q tree.root e) ∙ no-root)
-      units q false e = st.seen.units q ∙ sym (ap (option_map still) (same q))
+      units : (q : Name) (c : Bool) → gone q ≡ c → cond c None (w.units q) ≡ live_on old st new.board q
+      units q true e = sym (sym (seen-same old st new.board q (same q)) ∙ ap w.units (same_name-equal q tree.root e) ∙ no-root)
+      units q false e = seen-same old st new.board q (same q)
 
       here : unless_gone gone (w.attempts u) ≡ None
       here = ap (unless_gone gone) seen.there ∙ ap (λ c. cond c None (Some seen.tried)) (ap gone seen.is.root ∙ same_name-itself tree.root)

@@ -53,18 +53,18 @@ pub unit-gave : (old : Shared) → Stands old → old.end ≡ None → (u : Name
 unit-gave old st on_going u not_done found new g = unit-keeps old st u g.unit here (next_of old.setup (unit_state g.unit)) refl found new g.gives tries
   where
     here : IsHere old u (unit_state g.unit)
-    here = record { going = on_going; there = state-there old.board u g.unit g.there; unfinished = not_done g.unit g.there }
+    here = record { going = on_going; there = state-there old.board u g.unit g.there; unfinished = not_done g.unit g.there; level = g.level }
 
     tries : (attempt : Option Attempt) → named u old.attempts ≡ attempt → (body : NodeId) (values : List Value) (at : Spot) → next_of old.setup (unit_state g.unit) ≡ halt.Ask (request.Dosync body values) at
         → Tries old u g.unit body values at attempt found new → Stands new
-    tries None is body values at asks t = begins old st u g.unit here body values at asks is found new t
+    tries None is body values at asks t = begins old st u g.unit here.going here.there here.unfinished body values at asks is found new t
     tries (Some tree) is body values at asks t = absurd t
 
 -- what an attempt comes to whose root is at its end
 module _ (old : Shared) (st : Stands old) (on_going : old.end ≡ None) (u : Name) (x : Unit) (tree : Attempt) (unit_there : unit_at old.board u ≡ Some x) (there : named u old.attempts ≡ Some tree) where
   root-keeps : (ended : TaskEnd) → end_at tree ≡ Some ended → (found : Given) (new : Shared) → RootGives old u x tree ended found new → Stands new
-  root-keeps ended is found new (row.valid unchanged gives) = end-keeps old st on_going u x tree unit_there there unchanged ended is found new gives
-  root-keeps ended is found new (row.conflicts c) = aborted old st (ap is_going on_going) u x tree unit_there there c.ref c.conflict.version found new c.aborts
+  root-keeps ended is found new (row.valid level unchanged gives) = end-keeps old st on_going u x tree unit_there there level unchanged ended is found new gives
+  root-keeps ended is found new (row.conflicts level c) = aborted old st (ap is_going on_going) u x tree unit_there there c.ref c.conflict.version found new c.aborts
 
   missing-keeps : (ref : Name) (version : Option Version) (found : Given) (new : Shared) → Missing old u x tree ref version found new → Stands new
   missing-keeps ref None found new r = absurd r

@@ -1,4 +1,6 @@
 pub mod ActorPieces
+pub mod Ages
+pub mod Appends
 pub mod Begins
 pub mod Besides
 pub mod Commits
@@ -6,6 +8,12 @@ pub mod Effects
 pub mod Gone
 pub mod Kept
 pub mod Later
+pub mod Leading
+pub mod Leads
+pub mod LeadsBegin
+pub mod LeadsFirst
+pub mod LeadsKeep
+pub mod Lefts
 pub mod Lists
 pub mod Live
 pub mod MarkedActors
@@ -18,9 +26,13 @@ pub mod MarkLaws
 pub mod Marks
 pub mod Opens
 pub mod Over
+pub mod Quiet
 pub mod Sent
+pub mod Spreads
 pub mod Standing
 pub mod States
 pub mod Steps
 pub mod Turns
 pub mod Units
+pub mod Unsettled
+pub mod Versions

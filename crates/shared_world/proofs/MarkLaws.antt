@@ -43,7 +43,7 @@ use Rattle.value_core.specs.Named.{Name, named, same_name}
 pub gave-marks : (old new : Shared) (r : Returned) (found : Given) → Stands old → HasMarks old → Gave old r found new → HasMarks new
 gave-marks old new r found st marks (gave.stale none is same) on_going = pieces-marks old new same.pieces same.rest marks on_going
 gave-marks old new r found st marks (gave.unit name live g) on_going = marked-unit old st (marks (ap is_going unended)) name g.unit
-    (record { going = unended; there = state-there old.board name g.unit g.there; unfinished = unfinished old r name g.unit live g.there }) g.there found new on_going (next_of old.setup (unit_state g.unit)) refl g.gives
+    (record { going = unended; there = state-there old.board name g.unit g.there; unfinished = unfinished old r name g.unit live g.there; level = g.level }) g.there found new on_going (next_of old.setup (unit_state g.unit)) refl g.gives
   where
     unended : old.end ≡ None
     unended = going old r name live

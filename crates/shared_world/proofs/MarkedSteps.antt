@@ -29,7 +29,7 @@ use Rattle.unit_table.specs.declared.unit.Unit.{Unit as Doing}
 use Rattle.unit_table.specs.Piece.{unit_in}
 use Rattle.value_core.proofs.NamedLaws.{named-with_named, same_name-equal, same_name-itself}
 use Rattle.value_core.specs.declared.value.Value.{Value}
-use Rattle.value_core.specs.NameSet.{has_name}
+use Rattle.task_fork_join.specs.Knowledge.{is_known}
 use Rattle.value_core.specs.Named.{Name, Named, named, same_name, with_named}
 
 -- whether the step ends the task
@@ -143,7 +143,7 @@ module _ (old new : Shared) (marked : AreMarked old) (u task : Name) (tree after
         where
           by : (c : Bool) → forks_it went f ≡ c → IsToCome new.board after.tasks t f
           by true e = let begun = shape.child f (forked-so went f e) other in marks.task begun.task begun.there begun.going
-          by false e = marks.unit (ap (λ found. if has_name t.knows f then found else None) (shape.others f other (forked-not went f e)) ∙ unknown) (over f none)
+          by false e = marks.unit (ap (λ found. if is_known t.knows f then found else None) (shape.others f other (forked-not went f e)) ∙ unknown) (over f none)
 
       on : (c : Bool) → same_name f task ≡ c → IsToCome new.board after.tasks t f
       on true e = at-task (says_ended went) refl (same_name-equal f task e)

@@ -56,7 +56,7 @@ use Rattle.unit_table.specs.Piece.{says_finished, unit_in}
 use Rattle.value_core.proofs.NamedLaws.{named-here, named-with_named, same_name-equal, same_name-itself}
 use Rattle.value_core.specs.declared.value.Value.{Value}
 use Rattle.value_core.specs.declared.value.Value.TheVariants as value
-use Rattle.value_core.specs.NameSet.{has_name}
+use Rattle.task_fork_join.specs.Knowledge.{is_known}
 use Rattle.value_core.specs.Named.{Name, Named, named, same_name, with_named}
 
 none-by : (escape : TaskEnd) (o : Option TaskEnd) → end_by escape o ≡ None → o ≡ None
@@ -140,8 +140,8 @@ module _ (old : Shared) (marked : AreMarked old) (u : Name) (x : Doing) (tree af
   ends end.Spent found new on_going r = absurd (ends-going base _ _ found new r on_going)
 
   pub roots : (ended : TaskEnd) (found : Given) (new : Shared) → is_going new.end ≡ true → RootGives base u x after ended found new → AreMarked new
-  roots ended found new on_going (row.valid unchanged gives) = ends ended found new on_going gives
-  roots ended found new on_going (row.conflicts c) = aborts c.ref c.conflict.version found new c.aborts
+  roots ended found new on_going (row.valid level unchanged gives) = ends ended found new on_going gives
+  roots ended found new on_going (row.conflicts level c) = aborts c.ref c.conflict.version found new c.aborts
 
 -- the attempt as it is kept
 kept-base : (old : Shared) (u : Name) (tree : Attempt) → named u old.attempts ≡ Some tree → IsBase old u tree old
@@ -305,7 +305,7 @@ module _ (old : Shared) (st : Stands old) (marked : AreMarked old) (going : is_g
       on : (c : Bool) → same_name f task ≡ c → (GoesAt tree.tasks f ⊎ WaitsPlain tree.tasks shape.after outer h f) → IsToCome new.board after.tasks shape.after f
       on true e way = marks.task shape.after (ap (λ q. named q after.tasks) (same_name-equal f task e) ∙ shape.here) (is-after (stepped.WaitJoin f) so).0
       on false e (inl goes) = marks.task goes.task (others f (apart-of f task e) ∙ goes.there) goes.going
-      on false e (inr plain) = marks.unit (ap (λ o. if has_name shape.after.knows f then o else None) (others f (apart-of f task e)) ∙ plain.unknown)
+      on false e (inr plain) = marks.unit (ap (λ o. if is_known shape.after.knows f then o else None) (others f (apart-of f task e)) ∙ plain.unknown)
           (ap (λ o. option_and_then (λ (k : UnitState). k.finished) o) (task-set task (mark.Waiting (wait.Finish f)) old.board new.board (ap (λ p. option_map unit_state (option_and_then unit_in p)) at_task) set f) ∙ sym (ap (outer_of old.board) plain.asks) ∙ plain.none)
 
   -- a child was forked
@@ -418,7 +418,7 @@ module _ (old : Shared) (st : Stands old) (marked : AreMarked old) (going : is_g
         on true e come = marks.task shape.after (ap (λ q. named q after.tasks) (same_name-equal f task e) ∙ shape.here) goes
         on false e (marks.task child at_child going_child) = marks.task child (same-others (apart-of f task e) ∙ at_child) going_child
         on false e (marks.unit unknown none) = marks.unit
-            (ap (λ k. if has_name k f then named f after.tasks else None) (shape.knows held in_tree.0 in_tree.1) ∙ ap (λ o. if has_name in_tree.0.knows f then o else None) (same-others (apart-of f task e)) ∙ unknown)
+            (ap (λ k. if is_known k f then named f after.tasks else None) (shape.knows held in_tree.0 in_tree.1) ∙ ap (λ o. if is_known in_tree.0.knows f then o else None) (same-others (apart-of f task e)) ∙ unknown)
             (finished-same f none)
 
     keeps : (q : Mark) → m ≡ q → says_finished q ≡ false → ((p : Option Piece) → Rattle.unit_table.specs.Piece.beside task q p ≡ p) → (end_at after ≡ None → TaskSays new.board after.tasks shape.after q) → AreMarked new

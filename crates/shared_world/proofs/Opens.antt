@@ -1,10 +1,7 @@
 -- Main alone stands for the empty history.
 use Rattle.std.proofs.Common.{◌≡◌, ◌∙◌, Bool, true, false, cond, [], not-suc-le-zero, refl, sym, ap, subst}
 use Rattle.std.specs.Option.{option_and_then, option_map}
-use Rattle.std.proofs.lemmas.List.Elements.{All-nil}
-use Rattle.std.specs.List.{All}
 use Rattle.std.specs.Prelude.{None, Some}
-use Rattle.actor_mailbox.specs.declared.message.Message.{Message}
 use Rattle.core_syntax.specs.WellFormed.{IsWellFormed}
 use Rattle.serial_model.specs.State.{Setup, main_name, new_unit}
 use Rattle.shared_world.proofs.ActorPieces.{actor_of_piece, actors-put}
@@ -42,7 +39,7 @@ opening-stands setup s formed is = subst Stands (sym is.rest) (record {
       (λ q x there. let no : None ≡ Some x = sym (ap (option_and_then unit_in) (is.nothing q)) ∙ there in cc);
   attempts = λ going u tree there. cc;
   numbers = λ r k d in_range. absurd (not-suc-le-zero in_range);
-  definite = λ a. subst (All (λ (m : Message). m.depends ≡ None)) (sym (is.no_mail a)) (All-nil (λ (m : Message). m.depends ≡ None));
+  aheads = λ u h leads. cc;
 })
   where
     no-actor : (a : Name) → actor_at s.board a ≡ None

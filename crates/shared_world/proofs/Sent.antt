@@ -1,9 +1,9 @@
 -- What an attempt sends: what it has put before it commits, and what is there once it has.
 use Rattle.std.proofs.Common.{◌≡◌, ◌∙◌, Bool, true, false, cond, length, drop, filter, append-nil, append_assoc, List, [], ◌∷◌, ◌++◌, refl, sym, ap, ap₂, subst}
-use Rattle.std.proofs.lemmas.List.Elements.{All-append, All-from_recursion, All-head, All-tail}
-use Rattle.std.specs.Prelude.{Option, None, Some, All, map}
+use Rattle.std.specs.Prelude.{Option, None, Some, map}
 use Rattle.actor_mailbox.specs.declared.message.Message.{Message}
-use Rattle.actor_mailbox.specs.Messages.{is_from, passes, settle, settle_one}
+use Rattle.actor_mailbox.specs.Messages.{is_from, settle, settle_one}
+use Rattle.shared_world.proofs.Unsettled.{AreApart}
 use Rattle.serial_model.specs.declared.actor_state.ActorState.{ActorState}
 use Rattle.serial_model.specs.declared.effect.Effect.{Effect}
 use Rattle.serial_model.specs.declared.effect.What.{What}
@@ -13,34 +13,11 @@ use Rattle.serial_model.specs.State.{UnitState}
 use Rattle.value_core.proofs.NamedLaws.{same_name-equal, same_name-itself}
 use Rattle.value_core.specs.declared.value.Value.{Value}
 use Rattle.value_core.specs.Named.{Name, same_name}
-use Rattle.world_model.proofs.lists.Lists.{Each, drop-left, each-map, each-to, filter-all, filter-append, filter-none, filter-swap, flat_map-append, map-append, settle-others, settle-tentative}
+use Rattle.world_model.proofs.lists.Lists.{drop-left, each-map, filter-all, filter-append, flat_map-append, map-append, settle-others, settle-tentative}
 use Rattle.world_model.proofs.records.Frames.{at-here, at-other}
 use Rattle.world_model.specs.Message.{is_tentative, settled, tentative, unsettled}
 use Rattle.world_model.specs.rows.Attempts.{does_local, local, mails_done, with_done}
 use Rattle.world_model.specs.World.{Attempt, World, attempt_sends, held_sends, is_empty, is_some, kept_sends, line, put_last, put_or_kept, still}
-
--- ---- messages that depend on nothing
-abbrev pub AreDefinite : List Message → Type 0
-AreDefinite mail = All (λ (m : Message). m.depends ≡ None) mail
-
-each-of-all : {X : Type 0} (P : X → Type 0) (xs : List X) → All P xs → Each P xs
-each-of-all P [] all = tt
-each-of-all P (x ∷ xs) all = (All-head P x xs all, each-of-all P xs (All-tail P x xs all))
-
--- none depends on a name that passes
-independent : (test : Name → Bool) (mail : List Message) → AreDefinite mail → Each (λ (m : Message). passes test m.depends ≡ false) mail
-independent test mail all =
-    each-to (λ (m : Message). m.depends ≡ None) (λ (m : Message). passes test m.depends ≡ false) mail (λ m none. ap (passes test) none)
-    (each-of-all (λ (m : Message). m.depends ≡ None) mail all)
-
-pub none-unsettled : (u : Name) (mail : List Message) → AreDefinite mail → unsettled u mail ≡ []
-none-unsettled u mail all = filter-swap is_tentative (is_from u) mail ∙ ap (filter (is_from u)) (filter-none is_tentative mail (independent (λ on. true) mail all))
-
-pub settled-definite : (u : Name) (mail : List Message) (sent : List (List Value)) → AreDefinite mail → AreDefinite (mail ++ map (settled u) sent)
-settled-definite u mail sent all = All-append (λ (m : Message). m.depends ≡ None) mail (map (settled u) sent) all (new sent)
-  where
-    new : (sent : List (List Value)) → AreDefinite (map (settled u) sent)
-    new sent = All-from_recursion (λ (m : Message). m.depends ≡ None) (map (settled u) sent) (each-map (λ (m : Message). m.depends ≡ None) (settled u) sent (λ args. refl))
 
 -- ---- what is put and what is kept of the messages to an actor: where it is there, all are put; where it is not, all are kept
 abbrev pub put_of : Name → Name → Option ActorState → List (List Value) → List Message
@@ -171,13 +148,13 @@ done-locally w u unit tried (e ∷ es) put none =
     }
 
 -- Once the attempt commits all its messages are settled, and the last of the mail.
-pub mail-settles : (w : World) (u : Name) (unit : UnitState) (tried : Attempt) (b : Name) (mail : List Message) → HasPut w u unit tried → AreDefinite mail
+pub mail-settles : (w : World) (u : Name) (unit : UnitState) (tried : Attempt) (b : Name) (mail : List Message) → HasPut w u unit tried → AreApart (same_name tried.root) mail
     → w.mails b ≡ mail ++ put_of u tried.root (w.actors b) (effects_to b tried.effects)
     → settle (same_name tried.root) (w.mails b ++ kept_sends w u b) ≡ mail ++ map (settled u) (effects_to b tried.effects)
-mail-settles w u unit tried b mail put definite is =
+mail-settles w u unit tried b mail put apart is =
     ap (settle (same_name tried.root)) (ap₂ (λ ms more. ms ++ more) is (kept-so w u unit tried put b) ∙ append_assoc mail new (kept_of u tried.root (w.actors b) sent) ∙ ap (λ ms. mail ++ ms) (whole (w.actors b)))
     ∙ map-append (settle_one (same_name tried.root)) mail (map (tentative u tried.root) sent)
-    ∙ ap₂ (λ ms more. ms ++ more) (settle-others (same_name tried.root) mail (independent (same_name tried.root) mail definite)) (settle-tentative u tried.root (same_name tried.root) sent (same_name-itself tried.root))
+    ∙ ap₂ (λ ms more. ms ++ more) (settle-others (same_name tried.root) mail apart) (settle-tentative u tried.root (same_name tried.root) sent (same_name-itself tried.root))
   where
     sent : List (List Value)
     sent = effects_to b tried.effects

@@ -177,7 +177,7 @@ module _ (old : Shared) (st : Stands old) (on_going : is_going old.end ≡ true)
         machines = st.machines;
         attempts = λ go v other is_there. on v other (same_name v u) refl (sym (named-with_named v u after old.attempts) ∙ is_there);
         numbers = st.numbers;
-        definite = st.definite;
+        aheads = st.aheads;
       }
         where
           on : (v : Name) (other : Attempt) (c : Bool) → same_name v u ≡ c → cond c (Some after) (named v old.attempts) ≡ Some other → IsUnderWay base v other

@@ -1,10 +1,7 @@
 -- A turn that an actor begins keeps what is kept standing.
 use Rattle.std.proofs.Common.{◌≡◌, ◌∙◌, ◌≤◌, ◌==◌, suc, Bool, true, false, cond, length, length-append, le_refl, List, [], ◌∷◌, ◌++◌, refl, sym, ap, subst, arith}
-use Rattle.std.proofs.lemmas.List.Elements.{All-tail}
-use Rattle.std.specs.List.{All}
 use Rattle.std.specs.Option.{option_and_then, option_map}
 use Rattle.std.specs.Prelude.{Option, None, Some}
-use Rattle.actor_mailbox.specs.declared.message.Message.{Message}
 use Rattle.actor_mails.specs.Mails.{mail_at}
 use Rattle.serial_model.specs.declared.actor_state.ActorState.{ActorState}
 use Rattle.serial_model.specs.declared.end.End.TheVariants as ending
@@ -12,11 +9,13 @@ use Rattle.serial_model.specs.declared.entry.Entry.{Entry}
 use Rattle.serial_model.specs.declared.entry.Entry.TheVariants.{Take}
 use Rattle.serial_model.specs.State.{UnitState, new_unit}
 use Rattle.shared_world.proofs.ActorPieces.{actor-no-unit, actor-put, actor_of_piece, actors-put, not-same}
+use Rattle.shared_world.proofs.Leading.{live_on, none-leads, seen-here, seen-same, ahead-still}
 use Rattle.shared_world.proofs.Live.{no-piece}
 use Rattle.shared_world.proofs.Standing.{ended, under-way}
 use Rattle.shared_world.proofs.States.{SameStates, machines-put, states-put, unit-put}
 use Rattle.shared_world.specs.declared.given.Given.{Given}
 use Rattle.shared_world.specs.rows.Turns.{GaveActor, TakesIfAllowed}
+use Rattle.shared_world.specs.Seen.{one_or_none}
 use Rattle.shared_world.specs.Shared.{Shared, finished_at, is_going, state_at}
 use Rattle.shared_world.specs.Stands.{IsMachine, IsUnderWay, Stands}
 use Rattle.task_fork_join.specs.Attempt.{Attempt}
@@ -54,7 +53,7 @@ module _ (old : Shared) (st : Stands old) (on_going : old.end ≡ None) (a : Nam
     there = st.seen.actors a ∙ ap actor_of_piece g.there;
     idle = g.can.idle;
     behaves = g.can.behaves;
-    free = st.seen.taken a;
+    free = st.seen.taken a ∙ ap one_or_none g.can.free;
     front = st.seen.mails a ∙ g.mail;
     called = refl;
   }
@@ -79,7 +78,7 @@ module _ (old : Shared) (st : Stands old) (on_going : old.end ≡ None) (a : Nam
     seen = record {
       history = ap (λ h. h ++ entry ∷ []) st.seen.history;
       refs = st.seen.refs;
-      units = λ q. units q (same_name q turn) (states q);
+      units = λ q. units q (same_name q turn) refl (states q);
       actors = λ q. actors q (same_name q a) (actor-put a busy old.board r.board r.busy q);
       taken = st.seen.taken;
       mails = λ q. mails q (same_name q a) refl;
@@ -93,7 +92,7 @@ module _ (old : Shared) (st : Stands old) (on_going : old.end ≡ None) (a : Nam
     attempts = λ go v tree there.
         under-way old after v tree refl (apart v (st.attempts go v tree there).unit (st.attempts go v tree there).there) (λ q. refl) grows longer (st.attempts go v tree there);
     numbers = λ q k d in_range. let long = length-append old.history (entry ∷ []) in let below = st.numbers q k d in_range in omega (arith, long, below);
-    definite = λ q. definite q (same_name q a) refl;
+    aheads = λ v h leads. ahead-still old.board new.board v h (apart v (st.aheads v h leads).unit (st.aheads v h leads).there) (st.aheads v h leads);
   })
     where
       busy : Actor
@@ -116,9 +115,9 @@ module _ (old : Shared) (st : Stands old) (on_going : old.end ≡ None) (a : Nam
           unit-put turn r.turn r.board new.board r.put q ∙ ap (λ k. cond (same_name q turn) (Some k) (state_at r.board q)) r.begins.state
           ∙ ap (cond (same_name q turn) (Some begun)) (same q)
 
-      units : (q : Name) (c : Bool) → state_at new.board q ≡ cond c (Some begun) (state_at old.board q) → cond c (Some (still begun)) (w.units q) ≡ option_map still (state_at new.board q)
-      units q true e = sym (ap (option_map still) e)
-      units q false e = st.seen.units q ∙ sym (ap (option_map still) e)
+      units : (q : Name) (c : Bool) → same_name q turn ≡ c → state_at new.board q ≡ cond c (Some begun) (state_at old.board q) → cond c (Some (still begun)) (w.units q) ≡ live_on old st new.board q
+      units q true same e = seen-here old st new.board turn q begun (none-leads old st turn (no-piece old.board turn r.none)) same e
+      units q false apart e = seen-same old st new.board q e
 
       -- the turn has a name of its own
       other : turn ≡ a → ⊥
@@ -134,12 +133,6 @@ module _ (old : Shared) (st : Stands old) (on_going : old.end ≡ None) (a : Nam
       mails : (q : Name) (c : Bool) → same_name q a ≡ c → cond c g.rest (w.mails q) ≡ mail_at new.mails q
       mails q true e = sym r.mailed.here ∙ ap (mail_at new.mails) (sym (same_name-equal q a e))
       mails q false e = st.seen.mails q ∙ sym (r.mailed.others q (not-same q a e))
-
-      definite : (q : Name) (c : Bool) → same_name q a ≡ c → All (λ (m : Message). m.depends ≡ None) (mail_at new.mails q)
-      definite q true e = subst (λ k. All (λ (m : Message). m.depends ≡ None) (mail_at new.mails k)) (sym (same_name-equal q a e))
-          (subst (All (λ (m : Message). m.depends ≡ None)) (sym r.mailed.here)
-          (All-tail (λ (m : Message). m.depends ≡ None) g.first g.rest (subst (All (λ (m : Message). m.depends ≡ None)) g.mail (st.definite a))))
-      definite q false e = subst (All (λ (m : Message). m.depends ≡ None)) (sym (r.mailed.others q (not-same q a e))) (st.definite q)
 
       apart : (v : Name) (k : UnitState) → state_at old.board v ≡ Some k → state_at new.board v ≡ state_at old.board v
       apart v k there = on (same_name v turn) refl (states v)

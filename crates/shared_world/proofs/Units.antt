@@ -1,8 +1,6 @@
 -- What a unit comes to keeps what is kept standing.
 use Rattle.std.proofs.Common.{◌≡◌, ◌∙◌, ◌≤◌, ℕ, suc, ◌==◌, Bool, true, false, cond, length, length-append, List, [], ◌∷◌, ◌++◌, refl, sym, ap, subst, arith}
 use Rattle.std.specs.Option.{option_and_then, option_map, option_or}
-use Rattle.std.specs.List.{All}
-use Rattle.std.proofs.lemmas.List.Elements.{All-append, All-cons, All-nil}
 use Rattle.std.specs.Prelude.{Option, None, Some}
 use Rattle.actor_mailbox.specs.declared.message.Message.{Message}
 use Rattle.actor_mails.specs.Mails.{Mail, mail_at}
@@ -27,8 +25,10 @@ use Rattle.shared_world.specs.Seen.{AttemptSeen}
 use Rattle.shared_world.proofs.ActorPieces.{SameActors, actor-no-unit, actor-put, actor_of_piece, actors-put, actors-set, not-same, roused-actor, unit-no-actor}
 use Rattle.shared_world.specs.Shared.{Shared, actor_of, finished_at, is_going, ref_now, state_at, unit_state}
 use Rattle.shared_world.specs.Stands.{IsMachine, Stands}
+use Rattle.shared_world.proofs.Leading.{ahead-still, asks-no-attempt, finished-is-level, leads-apart, level-there, live_on, none-leads, seen-here, seen-same}
 use Rattle.shared_world.proofs.Live.{no-piece}
-use Rattle.shared_world.proofs.Standing.{Grows, above-next, ended, ref-committed, same-states, under-way}
+use Rattle.shared_world.specs.Ahead.{Ahead}
+use Rattle.shared_world.proofs.Standing.{Grows, above-next, ended, one-version, same-states, stands-next}
 use Rattle.shared_world.proofs.States.{EachMachine, SameStates, machines-put, machines-set, roused-unit, states-put, unit-put, unit-set}
 use Rattle.task_fork_join.specs.Attempt.{Attempt}
 use Rattle.txn_snapshot.specs.SnapshotAnswer.{snapshot_of}
@@ -55,11 +55,12 @@ use Rattle.world_model.specs.Message.{settled as message_settled}
 use Rattle.world_model.specs.World.{LiveUnit, World, put_last, still, with_at}
 use Rattle.world_model.specs.World as world
 
--- a unit that can do its next effect
+-- a unit that can do its next effect, and stands where the history left it
 pub record IsHere (s : Shared) (u : Name) (unit : UnitState) : Type 0 where
   pub going : s.end ≡ None
   pub there : state_at s.board u ≡ Some unit
   pub unfinished : unit.finished ≡ None
+  pub level : named u s.aheads ≡ None
 
 module _ (old : Shared) (st : Stands old) (u : Name) (x : Unit) (here : IsHere old u (unit_state x)) where
   abbrev w : World
@@ -74,7 +75,7 @@ module _ (old : Shared) (st : Stands old) (u : Name) (x : Unit) (here : IsHere o
   pub still-here : IsStill old.setup w u (still unit)
   still-here = record {
     going = st.seen.end ∙ here.going;
-    there = st.seen.units u ∙ ap (option_map still) here.there;
+    there = level-there old st u unit here.level here.there;
     takes = refl;
     held = refl;
     unfinished = here.unfinished;
@@ -82,20 +83,16 @@ module _ (old : Shared) (st : Stands old) (u : Name) (x : Unit) (here : IsHere o
 
   -- a unit that asks for no transaction has no attempt
   pub no-attempt : ((body : NodeId) (values : List Value) (at : Spot) → next_of old.setup unit ≡ halt.Ask (request.Dosync body values) at → ⊥) → (tree : Attempt) → named u old.attempts ≡ Some tree → ⊥
-  no-attempt other tree is =
-      let way = st.attempts is_going_so u tree is in
-      let both : Some way.unit ≡ Some unit = sym way.there ∙ here.there in
-      let same : way.unit ≡ unit = cc in
-      other way.body way.values way.at (subst (λ (x : UnitState). next_of old.setup x ≡ halt.Ask (request.Dosync way.body way.values) way.at) same way.asks)
+  no-attempt other tree is = asks-no-attempt old st is_going_so u unit here.there other tree is
 
   -- the unit as it is seen, once it has gone on
   pub seen-unit : (after : UnitState) (b : Board) → ((q : Name) → state_at b q ≡ cond (same_name q u) (Some after) (state_at old.board q))
-      → (q : Name) → with_at w.units u (Some (still after)) q ≡ option_map still (state_at b q)
-  seen-unit after b states q = on (same_name q u) (states q)
+      → (q : Name) → with_at w.units u (Some (still after)) q ≡ live_on old st b q
+  seen-unit after b states q = on (same_name q u) refl (states q)
     where
-      on : (c : Bool) → state_at b q ≡ cond c (Some after) (state_at old.board q) → cond c (Some (still after)) (w.units q) ≡ option_map still (state_at b q)
-      on true e = sym (ap (option_map still) e)
-      on false e = st.seen.units q ∙ sym (ap (option_map still) e)
+      on : (c : Bool) → same_name q u ≡ c → state_at b q ≡ cond c (Some after) (state_at old.board q) → cond c (Some (still after)) (w.units q) ≡ live_on old st b q
+      on true same e = seen-here old st b u q after here.level same e
+      on false apart e = seen-same old st b q e
 
   -- other units stay
   pub apart : (after : UnitState) (b : Board) → ((q : Name) → state_at b q ≡ cond (same_name q u) (Some after) (state_at old.board q))
@@ -122,11 +119,11 @@ module _ (old : Shared) (st : Stands old) (u : Name) (x : Unit) (here : IsHere o
     pub is_world : IsWorld old.setup w2
     pub history : w2.history ≡ old.history ++ Run u ∷ []
     pub refs : (r : Name) → w2.refs r ≡ ref_now versions r
-    pub units : (q : Name) → w2.units q ≡ option_map still (state_at b q)
+    pub units : (q : Name) → w2.units q ≡ live_on old st b q
     pub actors : (a : Name) → w2.actors a ≡ actor_at b a
     pub taken : (a : Name) → w2.taken a ≡ w.taken a
     pub mails_are : (a : Name) → w2.mails a ≡ mail_at mails a
-    pub definite : (a : Name) → All (λ (m : Message). m.depends ≡ None) (mail_at mails a)
+    pub leading : (v : Name) (h : Ahead) → named v old.aheads ≡ Some h → state_at b v ≡ state_at old.board v
     pub attempts : (v : Name) → w2.attempts v ≡ w.attempts v
     pub bytes_are : w2.bytes ≡ bytes
     pub made_is : w2.made ≡ made
@@ -139,46 +136,32 @@ module _ (old : Shared) (st : Stands old) (u : Name) (x : Unit) (here : IsHere o
   longer : length old.history ≤ length (old.history ++ Run u ∷ [])
   longer = let long = length-append old.history (Run u ∷ []) in omega (arith, long)
 
-  -- an attempt is seen the same where its refs read the same
-  seen-again : (versions : Named (List Version)) (found : Option Attempt) (tried : Option world.Attempt)
-      → ((tree : Attempt) → found ≡ Some tree → (r : Name) → snapshot_of versions tree.snapshot r ≡ snapshot_of old.versions tree.snapshot r)
-      → AttemptSeen old.versions found tried → AttemptSeen versions found tried
-  seen-again versions None None reads is = is
-  seen-again versions None (Some tried) reads is = is
-  seen-again versions (Some tree) None reads is = is
-  seen-again versions (Some tree) (Some tried) reads is = record {
-    root = is.root;
-    snapshot = is.snapshot;
-    store = λ r. is.store r ∙ sym (reads tree refl r);
-    reads = is.reads;
-    joined = is.joined;
-    effects = is.effects;
-    ended = is.ended;
-  }
-
   pub stands-stepped : (versions : Named (List Version)) (b : Board) (mails : Mail) (bytes : List ℕ) (made : ℕ) (w2 : World) → IsStepped versions b mails bytes made w2
       → Stands (record old { history = old.history ++ Run u ∷ []; versions = versions; board = b; mails = mails; bytes = bytes; made = made })
-  stands-stepped versions b mails bytes made w2 is = record {
-    formed = st.formed;
-    world = w2;
-    is_world = is.is_world;
-    seen = record {
-      history = is.history;
-      refs = is.refs;
-      units = is.units;
-      actors = is.actors;
-      taken = λ a. is.taken a ∙ st.seen.taken a;
-      mails = is.mails_are;
-      attempts = λ going v. subst (AttemptSeen versions (named v old.attempts)) (sym (is.attempts v)) (seen-again versions (named v old.attempts) (w.attempts v) (is.reads v) (st.seen.attempts going v));
-      bytes = is.bytes_are;
-      made = is.made_is;
-      end = is.end ∙ st.seen.end;
-    };
-    machines = is.machines;
-    attempts = λ going v tree there. under-way old (record old { history = old.history ++ Run u ∷ []; versions = versions; board = b; mails = mails; bytes = bytes; made = made }) v tree refl (is.stay v tree there) (is.reads v tree there) is.grows longer (st.attempts going v tree there);
-    numbers = λ r k d in_range. let long = length-append old.history (Run u ∷ []) in let below = is.numbers r k d in_range in omega (arith, long, below);
-    definite = is.definite;
-  }
+  stands-stepped versions b mails bytes made w2 is =
+      stands-next old st (record old { history = old.history ++ Run u ∷ []; versions = versions; board = b; mails = mails; bytes = bytes; made = made }) w2 (record {
+        setup = refl;
+        is_world = is.is_world;
+        history = is.history;
+        longer = longer;
+        refs = is.refs;
+        units = is.units;
+        actors = is.actors;
+        taken = λ a. is.taken a ∙ st.seen.taken a;
+        mails = is.mails_are;
+        attempts = refl;
+        tried = is.attempts;
+        bytes = is.bytes_are;
+        made = is.made_is;
+        end = is.end ∙ st.seen.end;
+        going = refl;
+        machines = is.machines;
+        stay = is.stay;
+        grows = is.grows;
+        reads = is.reads;
+        numbers = λ r k d in_range. let long = length-append old.history (Run u ∷ []) in let below = is.numbers r k d in_range in omega (arith, long, below);
+        aheads = λ v h leads. ahead-still old.board b v h (is.leading v h leads) (st.aheads v h leads);
+      })
 
   -- pieces that are those that were there, but for actors
   pub record IsBase (b : Board) : Type 0 where
@@ -190,13 +173,13 @@ module _ (old : Shared) (st : Stands old) (u : Name) (x : Unit) (here : IsHere o
 
   -- the unit goes on alone, with its entry
   settled : (y : Unit) (after : UnitState) (b0 b : Board) → IsBase b0 → IsUnitAt old.setup x y after (mark_after after.finished) → IsSet u (piece.Unit y) (mark_after after.finished) b0 b
-      → (mails : Mail) → ((a : Name) → All (λ (m : Message). m.depends ≡ None) (mail_at mails a)) → (versions : Named (List Version)) (bytes : List ℕ) (w2 : World) → IsWorld old.setup w2 → w2.history ≡ old.history ++ Run u ∷ [] → ((r : Name) → w2.refs r ≡ ref_now versions r)
+      → (mails : Mail) (versions : Named (List Version)) (bytes : List ℕ) (w2 : World) → IsWorld old.setup w2 → w2.history ≡ old.history ++ Run u ∷ [] → ((r : Name) → w2.refs r ≡ ref_now versions r)
       → ((q : Name) → w2.units q ≡ with_at w.units u (Some (still after)) q) → ((a : Name) → w2.actors a ≡ actor_at b0 a) → ((a : Name) → w2.taken a ≡ w.taken a) → ((a : Name) → w2.mails a ≡ mail_at mails a)
       → ((v : Name) → w2.attempts v ≡ w.attempts v) → w2.bytes ≡ bytes → w2.made ≡ old.made → w2.end ≡ w.end → ((tree : Attempt) → named u old.attempts ≡ Some tree → ⊥)
       → ((v : Name) (tree : Attempt) → named v old.attempts ≡ Some tree → (r : Name) → snapshot_of versions tree.snapshot r ≡ snapshot_of old.versions tree.snapshot r)
       → IsAbove (suc (suc (length old.history))) versions
       → Stands (record old { history = old.history ++ Run u ∷ []; versions = versions; board = b; mails = mails; bytes = bytes })
-  settled y after b0 b base at set mails definite versions bytes w2 is_world history refs units actors taken mails_are attempts bytes_are made_is end none reads numbers =
+  settled y after b0 b base at set mails versions bytes w2 is_world history refs units actors taken mails_are attempts bytes_are made_is end none reads numbers =
       stands-stepped versions b mails bytes old.made w2 (record {
         machines = machines-set (IsMachine old.setup) u y (mark_after after.finished) b0 b at.machine set base.machines;
         is_world = is_world;
@@ -206,7 +189,7 @@ module _ (old : Shared) (st : Stands old) (u : Name) (x : Unit) (here : IsHere o
         actors = λ a. actors a ∙ sym (actors-set u (piece.Unit y) (mark_after after.finished) b0 b refl (unit-no-actor b0 u unit (base.states u ∙ here.there)) set a);
         taken = taken;
         mails_are = mails_are;
-        definite = definite;
+        leading = λ v h leads. apart after b states v (leads-apart old st u here.level v h leads);
         attempts = attempts;
         bytes_are = bytes_are;
         made_is = made_is;
@@ -226,14 +209,14 @@ module _ (old : Shared) (st : Stands old) (u : Name) (x : Unit) (here : IsHere o
   plain : (after : UnitState) (text : List ℕ) (found : Given) (new : Shared) → Settles (record old { bytes = old.bytes ++ text }) u x after found new
       → IsWorld old.setup (moved_on (record w { bytes = w.bytes ++ text }) u after) → ((body : NodeId) (values : List Value) (at : Spot) → next_of old.setup unit ≡ halt.Ask (request.Dosync body values) at → ⊥) → Stands new
   plain after text found new r is_world other = subst Stands (sym r.others)
-      (settled r.unit after old.board new.board same-base r.stands r.set old.mails st.definite old.versions (old.bytes ++ text) (moved_on (record w { bytes = w.bytes ++ text }) u after) is_world (ap (λ h. h ++ Run u ∷ []) st.seen.history) st.seen.refs
+      (settled r.unit after old.board new.board same-base r.stands r.set old.mails old.versions (old.bytes ++ text) (moved_on (record w { bytes = w.bytes ++ text }) u after) is_world (ap (λ h. h ++ Run u ∷ []) st.seen.history) st.seen.refs
       (λ q. refl) st.seen.actors (λ a. refl) st.seen.mails (λ v. refl) (ap (λ b. b ++ text) st.seen.bytes) st.seen.made refl (no-attempt other) (λ v tree there r. refl) (above-next (suc (length old.history)) old.versions st.numbers))
 
   -- it goes on so, with nothing but its entry
   quiet : (after : UnitState) (found : Given) (new : Shared) → Settles old u x after found new → IsWorld old.setup (moved_on w u after)
       → ((body : NodeId) (values : List Value) (at : Spot) → next_of old.setup unit ≡ halt.Ask (request.Dosync body values) at → ⊥) → Stands new
   quiet after found new r is_world other = subst Stands (sym r.others)
-      (settled r.unit after old.board new.board same-base r.stands r.set old.mails st.definite old.versions old.bytes (moved_on w u after) is_world (ap (λ h. h ++ Run u ∷ []) st.seen.history) st.seen.refs
+      (settled r.unit after old.board new.board same-base r.stands r.set old.mails old.versions old.bytes (moved_on w u after) is_world (ap (λ h. h ++ Run u ∷ []) st.seen.history) st.seen.refs
       (λ q. refl) st.seen.actors (λ a. refl) st.seen.mails (λ v. refl) st.seen.bytes st.seen.made refl (no-attempt other) (λ v tree there r. refl) (above-next (suc (length old.history)) old.versions st.numbers))
 
   -- a row of the law
@@ -268,21 +251,12 @@ module _ (old : Shared) (st : Stands old) (u : Name) (x : Unit) (here : IsHere o
   joins f at asks None is found new r = subst Stands (sym r.others) (marks (mark.Waiting (wait.Finish f)) new.board r.marked)
   joins f at asks (Some v) is found new r =
       let y = joined f v is in
-      quiet (answered unit v) found new r (goes (moved_on w u (answered unit v)) (row.joins u (still unit) f (still y.0) at v still-here asks (st.seen.units f ∙ ap (option_map still) y.1) refl y.2)) (λ body values spot e. let no = sym asks ∙ e in cc)
-
-  -- a new version is what is read now
-  one-read : (n : Name) (v : Value) (r : Name) → with_at w.refs n (Some v) r ≡ ref_now (committed old.versions ((n, v) ∷ []) (suc (length old.history))) r
-  one-read n v r = on (same_name r n) (ref-committed old.versions ((n, v) ∷ []) (suc (length old.history)) tt r)
-    where
-      on : (c : Bool) → ref_now (committed old.versions ((n, v) ∷ []) (suc (length old.history))) r ≡ option_or (cond c (Some v) None) (ref_now old.versions r)
-          → cond c (Some v) (w.refs r) ≡ ref_now (committed old.versions ((n, v) ∷ []) (suc (length old.history))) r
-      on true e = sym e
-      on false e = st.seen.refs r ∙ sym e
+      quiet (answered unit v) found new r (goes (moved_on w u (answered unit v)) (row.joins u (still unit) f (still y.0) at v still-here asks (level-there old st f y.0 (finished-is-level old st f v is) y.1) refl y.2)) (λ body values spot e. let no = sym asks ∙ e in cc)
 
   makes-ref : (v : Value) (at : Spot) → next_of old.setup unit ≡ halt.Ask (request.NewRef v) at → (found : Given) (new : Shared)
       → UnitGives old u x (halt.Ask (request.NewRef v) at) found new → Stands new
   makes-ref v at asks found new r = subst Stands (sym r.others)
-      (settled r.unit after old.board new.board same-base r.stands r.set old.mails st.definite versions old.bytes after_world is_world (ap (λ h. h ++ Run u ∷ []) st.seen.history) (one-read n v)
+      (settled r.unit after old.board new.board same-base r.stands r.set old.mails versions old.bytes after_world is_world (ap (λ h. h ++ Run u ∷ []) st.seen.history) (one-version old st n v)
       (λ q. refl) st.seen.actors (λ a. refl) st.seen.mails (λ v. refl) st.seen.bytes st.seen.made refl (no-attempt (λ body values spot e. let no = sym asks ∙ e in cc))
       (λ q tree there ref. let way = st.attempts is_going_so q tree there in let within = way.within in read_below old.versions ((n, v) ∷ []) (suc (length old.history)) tree.snapshot tt (omega (arith, within)) ref)
       (above_committed old.versions versions ((n, v) ∷ []) (suc (length old.history)) tt refl st.numbers (suc (suc (length old.history))) (omega arith)))
@@ -316,11 +290,11 @@ module _ (old : Shared) (st : Stands old) (u : Name) (x : Unit) (here : IsHere o
         is_world = goes after_world (row.forks u (still unit) body values at still-here asks (ap (λ n. n == old.setup.limits.units) st.seen.made ∙ is));
         history = ap (λ h. h ++ Run u ∷ []) st.seen.history;
         refs = st.seen.refs;
-        units = λ q. live q (same_name q u) (same_name q child) (states q);
+        units = λ q. live q (same_name q u) (same_name q child) refl refl (states q);
         actors = λ a. st.seen.actors a ∙ sym (actors a);
         taken = λ a. refl;
         mails_are = st.seen.mails;
-        definite = st.definite;
+        leading = λ v h leads. led v h leads (same_name v u) (same_name v child) refl refl (states v);
         attempts = λ v. refl;
         bytes_are = st.seen.bytes;
         made_is = ap suc st.seen.made;
@@ -353,14 +327,20 @@ module _ (old : Shared) (st : Stands old) (u : Name) (x : Unit) (here : IsHere o
           put : SameActors old.board r.board
           put = actors-put child (Some (piece.Unit r.child)) old.board r.board (sym (ap actor_of_piece r.none)) r.put
 
-      live : (q : Name) (c d : Bool) → state_at new.board q ≡ cond c (Some after) (cond d (Some (new_unit None body values)) (state_at old.board q))
-          → cond c (Some (still after)) (cond d (Some (new_live body values)) (w.units q)) ≡ option_map still (state_at new.board q)
-      live q true d e = sym (ap (option_map still) e)
-      live q false true e = sym (ap (option_map still) e)
-      live q false false e = st.seen.units q ∙ sym (ap (option_map still) e)
-
       no-child : state_at old.board child ≡ None
       no-child = no-piece old.board child r.none
+
+      live : (q : Name) (c d : Bool) → same_name q u ≡ c → same_name q child ≡ d → state_at new.board q ≡ cond c (Some after) (cond d (Some (new_unit None body values)) (state_at old.board q))
+          → cond c (Some (still after)) (cond d (Some (new_live body values)) (w.units q)) ≡ live_on old st new.board q
+      live q true d is_u is_child e = seen-here old st new.board u q after here.level is_u e
+      live q false true is_u is_child e = seen-here old st new.board child q (new_unit None body values) (none-leads old st child no-child) is_child e
+      live q false false is_u is_child e = seen-same old st new.board q e
+
+      led : (v : Name) (h : Ahead) → named v old.aheads ≡ Some h → (c d : Bool) → same_name v u ≡ c → same_name v child ≡ d
+          → state_at new.board v ≡ cond c (Some after) (cond d (Some (new_unit None body values)) (state_at old.board v)) → state_at new.board v ≡ state_at old.board v
+      led v h leads true d is_u is_child e = absurd (leads-apart old st u here.level v h leads (same_name-equal v u is_u))
+      led v h leads false true is_u is_child e = absurd (leads-apart old st child (none-leads old st child no-child) v h leads (same_name-equal v child is_child))
+      led v h leads false false is_u is_child e = e
 
       stays : (v : Name) (tree : Attempt) → named v old.attempts ≡ Some tree → (c d : Bool) → same_name v u ≡ c → same_name v child ≡ d
           → state_at new.board v ≡ cond c (Some after) (cond d (Some (new_unit None body values)) (state_at old.board v)) → state_at new.board v ≡ state_at old.board v
@@ -380,7 +360,7 @@ module _ (old : Shared) (st : Stands old) (u : Name) (x : Unit) (here : IsHere o
 
   sends : (to : Name) (args : List Value) (at : Spot) → next_of old.setup unit ≡ halt.Ask (request.Send to args) at → (found : Given) (new : Shared) → Sends old u x to args found new → Stands new
   sends to args at asks found new r = subst Stands (sym r.settles.others)
-      (settled r.settles.unit after r.board new.board base r.settles.stands r.settles.set r.mails definite old.versions old.bytes after_world
+      (settled r.settles.unit after r.board new.board base r.settles.stands r.settles.set r.mails old.versions old.bytes after_world
       (goes after_world (row.sends u (still unit) to args at still-here asks)) (ap (λ h. h ++ Run u ∷ []) st.seen.history) st.seen.refs
       (λ q. refl) (λ a. st.seen.actors a ∙ sym (actors a)) (λ a. refl) (λ a. mails a (same_name a to) refl) (λ v. refl) st.seen.bytes st.seen.made refl
       (no-attempt (λ body values spot e. let no = sym asks ∙ e in cc)) (λ v tree there r. refl) (above-next (suc (length old.history)) old.versions st.numbers))
@@ -407,18 +387,9 @@ module _ (old : Shared) (st : Stands old) (u : Name) (x : Unit) (here : IsHere o
       mails a true e = ap (λ ms. ms ++ message ∷ []) (st.seen.mails to) ∙ sym r.mailed.here ∙ ap (mail_at r.mails) (sym (same_name-equal a to e))
       mails a false e = st.seen.mails a ∙ sym (r.mailed.others a (not-same a to e))
 
-      definite : (a : Name) → All (λ (m : Message). m.depends ≡ None) (mail_at r.mails a)
-      definite a = on (same_name a to) refl
-        where
-          on : (c : Bool) → same_name a to ≡ c → All (λ (m : Message). m.depends ≡ None) (mail_at r.mails a)
-          on true e = subst (λ q. All (λ (m : Message). m.depends ≡ None) (mail_at r.mails q)) (sym (same_name-equal a to e))
-              (subst (All (λ (m : Message). m.depends ≡ None)) (sym r.mailed.here)
-              (All-append (λ (m : Message). m.depends ≡ None) (mail_at old.mails to) (message ∷ []) (st.definite to) (All-cons (λ (m : Message). m.depends ≡ None) message [] refl (All-nil (λ (m : Message). m.depends ≡ None)))))
-          on false e = subst (All (λ (m : Message). m.depends ≡ None)) (sym (r.mailed.others a (not-same a to e))) (st.definite a)
-
   spawns : (behaviour : ℕ) (state : List Value) (at : Spot) → next_of old.setup unit ≡ halt.Ask (request.Spawn behaviour state) at → (found : Given) (new : Shared) → Spawns old u x behaviour state found new → Stands new
   spawns behaviour state at asks found new r = subst Stands (sym r.settles.others)
-      (settled r.settles.unit after r.board new.board base r.settles.stands r.settles.set old.mails st.definite old.versions old.bytes after_world
+      (settled r.settles.unit after r.board new.board base r.settles.stands r.settles.set old.mails old.versions old.bytes after_world
       (goes after_world (row.spawns u (still unit) behaviour state at still-here asks)) (ap (λ h. h ++ Run u ∷ []) st.seen.history) st.seen.refs
       (λ q. refl) (λ a. actors a (same_name a n) (actor-put n (record { state = idle behaviour state; mark = actor_mark false (mail_at old.mails n) }) old.board r.board r.put a)) (λ a. refl) st.seen.mails (λ v. refl) st.seen.bytes st.seen.made refl
       (no-attempt (λ body values spot e. let no = sym asks ∙ e in cc)) (λ v tree there r. refl) (above-next (suc (length old.history)) old.versions st.numbers))
@@ -457,7 +428,7 @@ module _ (old : Shared) (st : Stands old) (u : Name) (x : Unit) (here : IsHere o
   finishes v asks None is found new r =
       quiet (record unit { finished = Some v }) found new r (goes (moved_on w u (record unit { finished = Some v })) (row.finishes u (still unit) v still-here asks is)) (λ body values spot e. let no = sym asks ∙ e in cc)
   finishes v asks (Some a) is found new r = subst Stands (sym r.settles.others)
-      (settled r.settles.unit after r.board new.board base r.settles.stands r.settles.set old.mails st.definite old.versions old.bytes after_world
+      (settled r.settles.unit after r.board new.board base r.settles.stands r.settles.set old.mails old.versions old.bytes after_world
       (goes after_world (row.finishes_turn u a (still unit) r.actor.state v still-here asks is (st.seen.actors a ∙ ap actor_of_piece r.there))) (ap (λ h. h ++ Run u ∷ []) st.seen.history) st.seen.refs
       (λ q. refl) (λ q. actors q (same_name q a) (actor-put a (record { state = free; mark = actor_mark free.busy (mail_at old.mails a) }) old.board r.board r.freed q)) (λ q. refl) st.seen.mails (λ q. refl) st.seen.bytes st.seen.made refl
       (no-attempt (λ body values spot e. let no = sym asks ∙ e in cc)) (λ q tree there k. refl) (above-next (suc (length old.history)) old.versions st.numbers))

@@ -24,10 +24,11 @@ pub record IsUnclaimed (ticket : Ticket) (old new : Shared) : Type 0 where
   pub others : (other : Ticket) → (other ≡ ticket → ⊥) → claimed new other ≡ claimed old other
   pub rest : new ≡ record old { board = new.board }
 
--- a unit
+-- a unit that stands where the history left it
 pub record GaveUnit (old : Shared) (name : Name) (found : Given) (new : Shared) : Type 0 where
   pub unit : Unit
   pub there : unit_at old.board name ≡ Some unit
+  pub level : named name old.aheads ≡ None
   pub gives : UnitGives old name unit (next_of old.setup (unit_state unit)) found new
   pub claims : ClaimsEnd (λ q. same_name q name) old new
 

@@ -1,21 +1,25 @@
 -- What holds of every world as it is kept.
-use Rattle.std.specs.Prelude.{◌≡◌, ◌↔◌, false, true, None, Some}
+use Rattle.std.specs.Prelude.{◌≡◌, ◌↔◌, ◌+◌, ◌≤◌, ℕ, List, length, false, true, None, Some}
 use Rattle.core_syntax.specs.WellFormed.{IsWellFormed}
 use Rattle.serial_model.specs.declared.end.End.{End}
 use Rattle.serial_model.specs.declared.end.End.TheVariants.{Done}
 use Rattle.serial_model.specs.Replay.{IsOver, replay}
 use Rattle.serial_model.specs.State.{Setup, State}
+use Rattle.shared_world.specs.Counts.{IsLateFor, Runs, age_of, undone_among, undone_by}
 use Rattle.shared_world.specs.declared.given.Given.{Given}
+use Rattle.shared_world.specs.declared.given.Given.TheVariants as given
 use Rattle.shared_world.specs.Gave.{Gave}
-use Rattle.shared_world.specs.Later.{IsLater}
+use Rattle.shared_world.specs.Later.{Appends, settled_by}
 use Rattle.shared_world.specs.HeldUp.{IsHeldUp}
 use Rattle.shared_world.specs.Marks.{HasMarks}
 use Rattle.shared_world.specs.Opening.{IsOpening}
 use Rattle.shared_world.specs.Rest.{IsAtRest}
+use Rattle.shared_world.specs.rows.Leading.{GaveLead, GaveTentative}
 use Rattle.shared_world.specs.Returned.{Returned}
 use Rattle.shared_world.specs.Shared.{Shared, is_going, ready}
 use Rattle.shared_world.specs.Stands.{Stands}
 use Rattle.unit_table.specs.Board.{piece_at}
+use Rattle.unit_table.specs.declared.mark.Work.{Work}
 use Rattle.unit_table.specs.declared.piece.Piece.{Piece}
 use Rattle.value_core.specs.Named.{Name}
 
@@ -23,9 +27,9 @@ use Rattle.value_core.specs.Named.{Name}
 abbrev pub GaveKeeps : Type 0
 GaveKeeps = (old new : Shared) (result : Returned) (found : Given) → Stands old → Gave old result found new → Stands new
 
--- whatever a result comes to, the history goes on from where it was
-abbrev pub GaveGrows : Type 0
-GaveGrows = (old new : Shared) (result : Returned) (found : Given) → Gave old result found new → IsLater old new
+-- whatever a result comes to, just the entry that is answered is appended to the history, and none where none is settled
+abbrev pub GaveAppends : Type 0
+GaveAppends = (old new : Shared) (result : Returned) (found : Given) → Gave old result found new → Appends (settled_by found) old new
 
 -- main alone stands for the empty history
 abbrev pub OpeningStands : Type 0
@@ -48,3 +52,23 @@ OthersAreReady = (s : Shared) (name : Name) (p : Piece) → HasMarks s → is_go
 -- end is Done then.
 abbrev pub OverAtRest : Type 0
 OverAtRest = (s : Shared) → Stands s → s.end ≡ None → (state : State) → replay s.setup s.history ≡ Some state → (end : End) → IsOver s.setup state end ↔ (IsAtRest s × (end ≡ Done))
+
+-- Where it is answered that an attempt of a unit is undone, the unit had one, and the version that is named is above its snapshot and
+-- at most the number of entries.
+abbrev pub AbortsAreLate : Type 0
+AbortsAreLate = (old new : Shared) (result : Returned) (u ref : Name) (version : ℕ) → Stands old → Gave old result (given.Aborted u ref version) new → IsLateFor old u version
+
+-- each attempt that is undone is followed by one on more entries
+abbrev pub AttemptsAge : Type 0
+AttemptsAge = (old new : Shared) (result : Returned) (found : Given) → Stands old → Gave old result found new → (u : Name) → undone_by u found + age_of old u ≤ age_of new u
+
+-- in a run from main alone the attempts of a unit are undone at most as often as entries are settled
+abbrev pub AbortsAreFew : Type 0
+AbortsAreFew = (setup : Setup) (first last : Shared) (answers : List Given) → IsWellFormed setup.program → IsOpening setup first → Runs first answers last → (u : Name) → undone_among u answers ≤ length last.history
+
+-- What a turn that runs ahead comes to leaves what is kept standing, and so does a turn that is begun ahead.
+abbrev pub LeadKeeps : Type 0
+LeadKeeps = (old new : Shared) (name : Name) (claimed : Work) (found : Given) → Stands old → old.end ≡ None → GaveLead old name claimed found new → Stands new
+
+abbrev pub TentativeKeeps : Type 0
+TentativeKeeps = (old new : Shared) (name : Name) (found : Given) → Stands old → old.end ≡ None → GaveTentative old name found new → Stands new

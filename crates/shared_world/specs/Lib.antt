@@ -1,3 +1,5 @@
+pub mod Ahead
+pub mod Counts
 pub mod Gave
 pub mod HeldUp
 pub mod Later

@@ -19,4 +19,4 @@ pub record IsOpening (setup : Setup) (s : Shared) : Type 0 where
   pub nothing : (name : Name) → piece_at empty name ≡ None
   pub put : IsPutAt main_name (Some (piece.Unit main)) empty s.board
   pub no_mail : (a : Name) → mail_at s.mails a ≡ []
-  pub rest : s ≡ record { setup = setup; history = []; versions = []; board = s.board; mails = s.mails; attempts = []; owners = []; bytes = []; made = 1; end = None }
+  pub rest : s ≡ record { setup = setup; history = []; versions = []; board = s.board; mails = s.mails; taken = []; aheads = []; attempts = []; owners = []; bytes = []; made = 1; end = None }

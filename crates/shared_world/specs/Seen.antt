@@ -1,9 +1,12 @@
 -- The world that is seen in what is kept: what the law of the rows is about.
-use Rattle.std.specs.Prelude.{◌≡◌, true, List, [], Option, None, Some}
+use Rattle.std.specs.Prelude.{◌≡◌, ◌∷◌, true, List, [], Option, None, Some, take}
 use Rattle.std.specs.Option.{option_map}
+use Rattle.actor_mailbox.specs.declared.message.Message.{Message}
 use Rattle.actor_mails.specs.Mails.{mail_at}
 use Rattle.ref_store.specs.declared.version.Version.{Version}
-use Rattle.shared_world.specs.Shared.{Shared, is_going, ref_now, state_at}
+use Rattle.serial_model.specs.State.{UnitState}
+use Rattle.shared_world.specs.Ahead.{Ahead}
+use Rattle.shared_world.specs.Shared.{Shared, becoming_of, is_going, ref_now, state_at}
 use Rattle.task_fork_join.specs.Attempt.{Attempt}
 use Rattle.txn_snapshot.specs.SnapshotAnswer.{snapshot_of}
 use Rattle.unit_table.specs.Board.{actor_at}
@@ -11,9 +14,22 @@ use Rattle.value_core.specs.Named.{Name, Named, named}
 use Rattle.world_model.specs.World as world
 use Rattle.world_model.specs.World.{LiveUnit, World, still}
 
--- each unit stands where the history left it
+-- the turn where the history left it
+abbrev pub left_at : Ahead → UnitState → UnitState
+left_at h unit = record unit { answers = take h.answers unit.answers; made = h.made; becomes = option_map becoming_of h.becomes; finished = None }
+
+-- a unit stands where the history left it, unless it runs ahead
+abbrev pub live_with : Option Ahead → UnitState → LiveUnit
+live_with None unit = still unit
+live_with (Some h) unit = record { from = left_at h unit; now = unit; takes = h.takes; held = h.held }
+
 abbrev pub live_at : Shared → Name → Option LiveUnit
-live_at s u = option_map still (state_at s.board u)
+live_at s u = option_map (live_with (named u s.aheads)) (state_at s.board u)
+
+-- the message of the actor's turn whose begin is held, where there is one
+abbrev pub one_or_none : Option Message → List Message
+one_or_none None = []
+one_or_none (Some m) = m ∷ []
 
 -- An attempt as it began: on the refs at its snapshot. What its tasks have done since is in the tasks alone, until it commits.
 pub record IsSeenAttempt (versions : Named (List Version)) (tree : Attempt) (tried : world.Attempt) : Type 0 where
@@ -30,14 +46,13 @@ AttemptSeen versions None None = Unit {0}
 AttemptSeen versions (Some tree) (Some tried) = IsSeenAttempt versions tree tried
 AttemptSeen versions _ _ = ⊥
 
--- The world is what is kept, seen by name; no turn is begun ahead of the history. Of attempts nothing is said once the run has
--- ended.
+-- The world is what is kept, seen by name. Of attempts nothing is said once the run has ended.
 pub record IsSeen (s : Shared) (w : World) : Type 0 where
   pub history : w.history ≡ s.history
   pub refs : (r : Name) → w.refs r ≡ ref_now s.versions r
   pub units : (u : Name) → w.units u ≡ live_at s u
   pub actors : (a : Name) → w.actors a ≡ actor_at s.board a
-  pub taken : (a : Name) → w.taken a ≡ []
+  pub taken : (a : Name) → w.taken a ≡ one_or_none (named a s.taken)
   pub mails : (a : Name) → w.mails a ≡ mail_at s.mails a
   pub attempts : is_going s.end ≡ true → (u : Name) → AttemptSeen s.versions (named u s.attempts) (w.attempts u)
   pub bytes : w.bytes ≡ s.bytes

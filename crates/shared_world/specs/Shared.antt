@@ -2,6 +2,8 @@
 use Rattle.std.specs.Prelude.{ℕ, List, Option, None, Some, Bool, true, false, ◌&&◌, refl, if◌then◌else◌}
 use Rattle.std.specs.Coded.{Coded, code_by, coded×, coded_list, coded_option, coded_ℕ}
 use Rattle.std.specs.Option.{option_and_then, option_map}
+use Rattle.actor_mailbox.specs.contracts.message.Message as message_row
+use Rattle.actor_mailbox.specs.declared.message.Message.{Message}
 use Rattle.actor_mails.specs.Mails.{Mail, mail_code}
 use Rattle.core_syntax.specs.Table.{Table}
 use Rattle.core_syntax.specs.contracts.program.Program as program
@@ -17,6 +19,7 @@ use Rattle.serial_model.specs.declared.end.End.{End}
 use Rattle.serial_model.specs.declared.entry.Entry.{Entry}
 use Rattle.serial_model.specs.Limits.{Budget}
 use Rattle.serial_model.specs.State.{Becoming, Setup, UnitState}
+use Rattle.shared_world.specs.Ahead.{Ahead, ahead_code}
 use Rattle.task_fork_join.specs.Attempt.{Attempt, attempt_code, machine_of}
 use Rattle.unit_table.specs.Board.{Board, board_code, is_ready, lent_to, mark_at, piece_at, unit_at}
 use Rattle.unit_table.specs.declared.mark.Mark.{Mark}
@@ -32,15 +35,17 @@ use Rattle.value_core.specs.declared.ticket.Ticket.{Ticket}
 use Rattle.value_core.specs.declared.value.Value.{Value}
 use Rattle.value_core.specs.Named.{Name, Named, named}
 
--- What is run; the entries so far; the versions of refs; the pieces with their marks and claims; the mail of each actor; the
--- attempt of each unit that has one, and of each task the unit whose attempt it is of; the bytes printed; the number of units
--- made; and the end, where one is set.
+-- What is run; the entries so far; the versions of refs; the pieces with their marks and claims; the mail of each actor, and the
+-- message of its turn whose begin is held; of each turn that runs ahead where the history left it; the attempt of each unit that has
+-- one, and of each task the unit whose attempt it is of; the bytes printed; the number of units made; and the end, where one is set.
 pub record Shared : Type 0 where
   pub setup : Setup
   pub history : List Entry
   pub versions : Named (List Version)
   pub board : Board
   pub mails : Mail
+  pub taken : Named Message
+  pub aheads : Named Ahead
   pub attempts : Named Attempt
   pub owners : Named Name
   pub bytes : List ℕ
@@ -50,13 +55,14 @@ pub record Shared : Type 0 where
 -- it is stored as its parts
 abbrev pub shared_code : Coded Shared
 shared_code =
-    code_by ((Table × Budget) × (List Entry × (Named (List Version) × (Board × (Mail × (Named Attempt × (Named Name × (List ℕ × (ℕ × Option End)))))))))
+    code_by ((Table × Budget) × (List Entry × (Named (List Version) × (Board × (Mail × (Named Message × (Named Ahead × (Named Attempt × (Named Name × (List ℕ × (ℕ × Option End)))))))))))
     (coded× (coded× (program.the_row).coded (limits.the_row).coded) (coded× (coded_list (entry.the_row).coded)
     (coded× (coded_list (coded× (coded_list coded_ℕ) (coded_list (version.the_row).coded))) (coded× board_code (coded× mail_code
+    (coded× (coded_list (coded× (coded_list coded_ℕ) (message_row.the_row).coded)) (coded× (coded_list (coded× (coded_list coded_ℕ) ahead_code))
     (coded× (coded_list (coded× (coded_list coded_ℕ) attempt_code)) (coded× (coded_list (coded× (coded_list coded_ℕ) (coded_list coded_ℕ)))
-    (coded× (coded_list coded_ℕ) (coded× coded_ℕ (coded_option (ending.the_row).coded))))))))))
-    (λ s. ((s.setup.program, s.setup.limits), (s.history, (s.versions, (s.board, (s.mails, (s.attempts, (s.owners, (s.bytes, (s.made, s.end))))))))))
-    (λ p. record { setup = record { program = p.0.0; limits = p.0.1 }; history = p.1.0; versions = p.1.1.0; board = p.1.1.1.0; mails = p.1.1.1.1.0; attempts = p.1.1.1.1.1.0; owners = p.1.1.1.1.1.1.0; bytes = p.1.1.1.1.1.1.1.0; made = p.1.1.1.1.1.1.1.1.0; end = p.1.1.1.1.1.1.1.1.1 })
+    (coded× (coded_list coded_ℕ) (coded× coded_ℕ (coded_option (ending.the_row).coded))))))))))))
+    (λ s. ((s.setup.program, s.setup.limits), (s.history, (s.versions, (s.board, (s.mails, (s.taken, (s.aheads, (s.attempts, (s.owners, (s.bytes, (s.made, s.end))))))))))))
+    (λ p. record { setup = record { program = p.0.0; limits = p.0.1 }; history = p.1.0; versions = p.1.1.0; board = p.1.1.1.0; mails = p.1.1.1.1.0; taken = p.1.1.1.1.1.0; aheads = p.1.1.1.1.1.1.0; attempts = p.1.1.1.1.1.1.1.0; owners = p.1.1.1.1.1.1.1.1.0; bytes = p.1.1.1.1.1.1.1.1.1.0; made = p.1.1.1.1.1.1.1.1.1.1.0; end = p.1.1.1.1.1.1.1.1.1.1.1 })
     (λ _. refl)
 
 -- no end is set

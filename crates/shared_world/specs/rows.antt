@@ -1,5 +1,6 @@
 pub mod Actors
 pub mod Attempts
+pub mod Leading
 pub mod Pieces
 pub mod Tasks
 pub mod Turns

@@ -1,14 +1,14 @@
 //! Laws of the world as it is kept.
-ghost use Rattle.shared_world.specs.Laws.{GaveGrows, GaveKeeps, GaveMarks, OpeningMarks, OpeningStands, OthersAreReady, OverAtRest};
+ghost use Rattle.shared_world.specs.Laws.{AbortsAreFew, AbortsAreLate, AttemptsAge, GaveAppends, GaveKeeps, GaveMarks, LeadKeeps, OpeningMarks, OpeningStands, OthersAreReady, OverAtRest, TentativeKeeps};
 
 /// Whatever a result that is given back comes to, what is kept stands for the replay of its history afterwards.
 pub fn gave_keeps()
     ensures { GaveKeeps }
 {}
 
-/// Whatever a result that is given back comes to, the history goes on from where it was.
-pub fn gave_grows()
-    ensures { GaveGrows }
+/// Whatever a result that is given back comes to, just the entry that is answered is appended to the history.
+pub fn gave_appends()
+    ensures { GaveAppends }
 {}
 
 /// Main alone stands for the empty history.
@@ -35,4 +35,29 @@ pub fn others_are_ready()
 /// While no end is set the run is over exactly where each unit is finished and nobody has mail.
 pub fn over_at_rest()
     ensures { OverAtRest }
+{}
+
+/// An attempt is undone only for a version above its snapshot, of an entry that is there.
+pub fn aborts_are_late()
+    ensures { AbortsAreLate }
+{}
+
+/// An attempt that is undone is followed by one on more entries.
+pub fn attempts_age()
+    ensures { AttemptsAge }
+{}
+
+/// In a run the attempts of a unit are undone at most as often as entries are settled.
+pub fn aborts_are_few()
+    ensures { AbortsAreFew }
+{}
+
+/// Whatever a turn comes to that runs ahead of the history, what is kept stands for the replay of its history afterwards.
+pub fn lead_keeps()
+    ensures { LeadKeeps }
+{}
+
+/// An actor that begins a turn on a message that is not settled leaves what is kept standing.
+pub fn tentative_keeps()
+    ensures { TentativeKeeps }
 {}

@@ -7,5 +7,6 @@ mod laws;
 
 pub use given::Given;
 pub use laws::{
-    gave_grows, gave_keeps, gave_marks, opening_marks, opening_stands, others_are_ready,
+    aborts_are_few, aborts_are_late, attempts_age, gave_appends, gave_keeps, gave_marks,
+    opening_marks, opening_stands, others_are_ready,
 };

@@ -2,7 +2,7 @@ use sexpr_reader::read;
 use std::alloc::{AllocError, Global};
 use std::test::Fail;
 use sugar::{BadKind, Core, CoreKind, Cores, Tops, expand, is_form_word};
-use value_core::{Seq, Text};
+use value_core::Text;
 
 /// Whether places are written behind the core forms, as `x@2:1`.
 #[derive(Clone, Copy)]
@@ -14,7 +14,7 @@ enum Detail {
 /// The core forms as text with one space between them: a made name is `#` and its number, a bad form `!arity` or
 /// `!form`, and a string stands as it is between quotes.
 fn written(alloc: Global, tops: &Tops, detail: Detail) -> Result<Text, AllocError> {
-    let mut text = Seq::new(alloc);
+    let mut text = Text::new(alloc);
     push_parts(alloc, tops, &mut text, b"", b"", detail)?;
     Ok(text)
 }

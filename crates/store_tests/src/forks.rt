@@ -1,9 +1,10 @@
 use crate::snapshots::{integer_in, is_made, root, set, two_refs};
-use ref_store::{Store, Writes};
+use ref_store::Store;
 use serial_model::{Effect, Request, What};
 use std::alloc::{AllocError, Global};
 use std::test::Fail;
-use txn_snapshot::{ForkView, TaskLog};
+use task_log::list_effects;
+use txn_snapshot::{ForkView, Reads, TaskLog, View};
 use value_core::{Name, Text};
 
 /// A child that was forked: its future, and what it has done.
@@ -18,7 +19,7 @@ fn fork(alloc: Global, parent: &mut TaskLog) -> Result<Child, AllocError> {
     child_of(alloc, future, view)
 }
 
-fn child_of(alloc: Global, future: Name, view: Writes) -> Result<Child, AllocError> {
+fn child_of(alloc: Global, future: Name, view: View) -> Result<Child, AllocError> {
     let name = future.copy(alloc)?;
     Ok(Child {
         future,
@@ -51,11 +52,21 @@ fn is_print(effect: &Effect, text: &[u8]) -> bool {
 }
 
 /// Whether the task printed the two, in this order.
-fn printed(task: &TaskLog, first: &[u8], second: &[u8]) -> bool {
-    match task.effects() {
+fn printed(alloc: Global, task: &TaskLog, first: &[u8], second: &[u8]) -> Result<bool, AllocError> {
+    let effects = list_effects(alloc, task.effects())?;
+    Ok(match effects.as_slice() {
         [one, other] => is_print(one, first) && is_print(other, second),
         _ => false,
-    }
+    })
+}
+
+/// Whether the task has read that ref, and no other.
+fn read_one(task: &TaskLog, made: u32) -> Result<bool, AllocError> {
+    let reads = Reads::of(task.reads())?;
+    Ok(match reads.items() {
+        [only] => is_made(only, made),
+        _ => false,
+    })
 }
 
 // The parent writes 6 after the fork: the child still finds the 5 that was there then, and what is in no write of its
@@ -69,11 +80,7 @@ fn finds_what_was_there(
     let is_set = set(alloc, parent, 0, 6, store)?;
     let first = integer_in(alloc, &mut child.log, 0, store)?;
     let second = integer_in(alloc, &mut child.log, 1, store)?;
-    let reads = match child.log.reads().items() {
-        [only] => is_made(only, 1),
-        _ => false,
-    };
-    Ok(is_set && first == Some(5) && second == Some(20) && reads)
+    Ok(is_set && first == Some(5) && second == Some(20) && read_one(&child.log, 1)?)
 }
 
 fn forks(alloc: Global, parent: &mut TaskLog, store: &Store) -> Result<bool, AllocError> {
@@ -111,11 +118,8 @@ fn has_what_its_child_did(
     store: &Store,
 ) -> Result<bool, AllocError> {
     let found = integer_in(alloc, parent, 0, store)?;
-    let reads = match parent.reads().items() {
-        [only] => is_made(only, 1),
-        _ => false,
-    };
-    Ok(found == Some(7) && reads && printed(parent, b"parent\n", b"child\n"))
+    let printed = printed(alloc, parent, b"parent\n", b"child\n")?;
+    Ok(found == Some(7) && read_one(parent, 1)? && printed)
 }
 
 fn joins(alloc: Global, parent: &mut TaskLog, store: &Store) -> Result<bool, AllocError> {
@@ -142,7 +146,8 @@ fn comes_by_two_joins(
     print(alloc, &mut child.log, b"child\n", store)?;
     let by_child = join(alloc, &mut child.log, sibling)?;
     let by_parent = join(alloc, parent, sibling)? && join(alloc, parent, child)?;
-    Ok(by_child && by_parent && printed(parent, b"sibling\n", b"child\n"))
+    let printed = printed(alloc, parent, b"sibling\n", b"child\n")?;
+    Ok(by_child && by_parent && printed)
 }
 
 fn joins_both(alloc: Global, parent: &mut TaskLog, store: &Store) -> Result<bool, AllocError> {

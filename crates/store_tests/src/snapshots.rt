@@ -1,9 +1,9 @@
 use crate::versions::{ref_of, set_at};
-use ref_store::{Store, Writes};
+use ref_store::Store;
 use serial_model::{Answer, Request};
 use std::alloc::{AllocError, Global};
 use std::test::Fail;
-use txn_snapshot::{Answered, TaskLog};
+use txn_snapshot::{Answered, Reads, TaskLog, View};
 use value_core::{Name, Value};
 
 /// Whether main made that as the thing of that number.
@@ -14,7 +14,7 @@ pub(crate) fn is_made(name: &Name, made: u32) -> bool {
 /// A task that has done nothing, at the root.
 pub(crate) fn root(alloc: Global) -> Result<TaskLog, AllocError> {
     let name = ref_of(alloc, 9)?;
-    Ok(TaskLog::new(alloc, name, Writes::new(alloc), 0, None))
+    Ok(TaskLog::new(alloc, name, View::new(alloc), 0, None))
 }
 
 /// The things 0 and 1 that main made are refs: 0 has 10 from the commit 1 on and 30 from 3 on, and 1 has 20 from 2 on.
@@ -66,7 +66,8 @@ fn reads_at_the_snapshot(
 ) -> Result<bool, AllocError> {
     let second = integer_in(alloc, task, 1, store)?;
     let first = integer_in(alloc, task, 0, store)?;
-    let in_order = match task.reads().items() {
+    let reads = Reads::of(task.reads())?;
+    let in_order = match reads.items() {
         [one, other] => is_made(one, 0) && is_made(other, 1),
         _ => false,
     };
@@ -81,7 +82,8 @@ fn a_ref_is_read(alloc: Global, store: &Store) -> Result<bool, AllocError> {
 fn sees_its_writes(alloc: Global, task: &mut TaskLog, store: &Store) -> Result<bool, AllocError> {
     let is_set = set(alloc, task, 0, 5, store)?;
     let found = integer_in(alloc, task, 0, store)?;
-    Ok(is_set && found == Some(5) && task.reads().items().is_empty())
+    let reads = Reads::of(task.reads())?;
+    Ok(is_set && found == Some(5) && reads.items().is_empty())
 }
 
 fn own_writes_are_seen(alloc: Global, store: &Store) -> Result<bool, AllocError> {

@@ -3,7 +3,7 @@ use ref_store::Store;
 use std::alloc::{AllocError, Global};
 use std::test::Fail;
 use txn_commit::{Conflict, validate};
-use txn_snapshot::TaskLog;
+use txn_snapshot::{Reads, TaskLog};
 
 /// What a validation answers where the task has read that ref at the snapshot 2.
 fn read_and_validated(
@@ -13,7 +13,7 @@ fn read_and_validated(
     store: &Store,
 ) -> Result<Result<(), Conflict>, AllocError> {
     let _found = integer_in(alloc, task, made, store)?;
-    Ok(validate(task.reads(), store, 2))
+    Ok(validate(&Reads::of(task.reads())?, store, 2))
 }
 
 fn validated(alloc: Global, made: u32, store: &Store) -> Result<Result<(), Conflict>, AllocError> {

@@ -5,6 +5,7 @@ use Rattle.serial_model.proofs.standing.Requests.{task_at}
 use Rattle.serial_model.proofs.standing.Trees.{begun-run, root_of}
 use Rattle.serial_model.specs.Log.{new_log}
 use Rattle.serial_model.specs.Standing.{Going, Runs, Start, Tasks, TreeTask}
+use Rattle.task_fork_join.specs.Knowledge.{no_names}
 use Rattle.task_fork_join.specs.Attempt.{Attempt, levels_below, stage_of, tasks_of, tree_task, IsNew}
 use Rattle.task_fork_join.specs.declared.task.Stage.TheVariants as kept
 use Rattle.task_fork_join.specs.declared.task.Task.{Task}
@@ -16,10 +17,10 @@ use Rattle.value_core.specs.Named.{Name, Named, is_among, named}
 use Rattle.value_core.specs.Place.{Spot}
 
 module _ (start : Start) (at : Spot) (base finished : Name → Option Datum) (machine : Evaluation) (tree : Attempt) (root : IsRootMachine start machine) (task : Task)
-    (log_is : task.log ≡ new_task start.name [] 0 start.actor) (knows_none : task.knows.keys ≡ [])
+    (log_is : task.log ≡ new_task start.name [] 0 start.actor) (knows_none : task.knows ≡ no_names)
     (goes : task.stage ≡ kept.Going machine) where
   task_is : tree_task task ≡ root_of start
-  task_is = (λ i. task_at (levels_below (log_is i).depth) (log_is i).base (knows_none i) (log_is i).log (stage_of (goes i)))
+  task_is = (λ i. task_at (levels_below (log_is i).depth) (log_is i).base (knows_none i).keys (log_is i).log (stage_of (goes i)))
       ∙ (λ i. task_at 16 [] [] (new_log start.name) (Going (root.body i) (root.values i) (root.none i)))
 
   member : IsMember start [] task

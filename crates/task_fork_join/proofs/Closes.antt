@@ -31,7 +31,7 @@ use Rattle.task_fork_join.specs.Step.{Stays}
 use Rattle.txn_snapshot.specs.SnapshotTask.{SnapshotTask, AreAmong}
 use Rattle.value_core.proofs.NamedViews.{view_found}
 use Rattle.value_core.specs.declared.value.Value.{Value as Datum}
-use Rattle.value_core.specs.NameSet.{has_name}
+use Rattle.task_fork_join.specs.Knowledge.{Knowledge, is_known}
 use Rattle.value_core.specs.Named.{Name, Named, is_among, made_by, named}
 use Rattle.value_core.specs.Place.{Spot}
 
@@ -53,7 +53,7 @@ module _ (start : Start) (at : Spot) (base finished : Name → Option Datum) (ol
     base_is : parts.log.base ≡ t.log.base
     depth_is : parts.log.depth ≡ t.log.depth
     actor_is : parts.log.actor ≡ t.log.actor
-    knows_in : (g : Name) → has_name parts.knows g ≡ true → is_there (tasks_of tasks) g ≡ true
+    knows_in : (g : Name) → is_known parts.knows g ≡ true → is_there (tasks_of tasks) g ≡ true
     reads_in : AreAmong parts.log.reads old.reads
     stands : (around : Around) (results : Name → Result) → EachTask (IsAt around results) (tasks_of tasks) → At around results before (Closing v 0) → At around results parts stage
 
@@ -91,10 +91,10 @@ module _ (start : Start) (at : Spot) (base finished : Name → Option Datum) (ol
     joined_before among around results each at_it = step.closes_joined around results name (levels_below t.log.depth) t.log.base mid.knows.keys mid.log.log v k at_it more among
 
     -- it is no task that it knows
-    unknown : has_name mid.knows future ≡ false → (around : Around) (results : Name → Result) → EachTask (IsAt around results) (tasks_of tasks) → At around results mid (Closing v k) → At around results mid (Closing v (k + 1))
+    unknown : is_known mid.knows future ≡ false → (around : Around) (results : Name → Result) → EachTask (IsAt around results) (tasks_of tasks) → At around results mid (Closing v k) → At around results mid (Closing v (k + 1))
     unknown none around results each at_it = step.closes_unknown around results name (levels_below t.log.depth) t.log.base mid.knows.keys mid.log.log v k at_it more none
 
-    module _ (apart : is_among future mid.log.log.joined ≡ false) (known : has_name mid.knows future ≡ true) (child : Task) (there : named future tasks ≡ Some child) where
+    module _ (apart : is_among future mid.log.log.joined ≡ false) (known : is_known mid.knows future ≡ true) (child : Task) (there : named future tasks ≡ Some child) where
       formed_so : child.log.log.name ≡ future
       formed_so = (run.runs.formed future (tree_task child) (view_found tree_task future tasks child there)).named_so
 
@@ -108,7 +108,7 @@ module _ (start : Start) (at : Spot) (base finished : Name → Option Datum) (ol
         base_is = ap (λ (l : SnapshotTask). l.base) merge.log_is ∙ sound.base_is;
         depth_is = ap (λ (l : SnapshotTask). l.depth) merge.log_is ∙ sound.depth_is;
         actor_is = ap (λ (l : SnapshotTask). l.actor) merge.log_is ∙ sound.actor_is;
-        knows_in = λ g among. of_both (is_there (tasks_of tasks) g) (has_name mid.knows g) (has_name child.knows g) (sym (merge.both g) ∙ among) (sound.knows_in g) (child_knows g);
+        knows_in = λ g among. of_both (is_there (tasks_of tasks) g) (is_known mid.knows g) (is_known child.knows g) (sym (merge.both g) ∙ among) (sound.knows_in g) (child_knows g);
         reads_in = λ ref among. among_both mid.log.reads child.log.reads old.reads sound.reads_in (run.members future child there).reads_so ref (ap (λ (l : SnapshotTask). is_among ref l.reads) (sym merge.log_is) ∙ among);
         stands = λ around results each first.
             subst (λ (l : Log). IsAt around results name (task_at (levels_below t.log.depth) t.log.base parts.knows.keys l (Closing v (k + 1)))) (sym (log_so))
@@ -131,9 +131,9 @@ module _ (start : Start) (at : Spot) (base finished : Name → Option Datum) (ol
       went_at (kept.Ended end.Spent) parts found stage so = ends_badly end.Spent parts found tt stage so
 
     went_so : (parts : Parts) (found : Went) → IsWent tasks k mid parts found → After k parts found
-    went_so parts found it = on (is_among future mid.log.log.joined) (has_name mid.knows future) (named future tasks) refl refl refl it
+    went_so parts found it = on (is_among future mid.log.log.joined) (is_known mid.knows future) (named future tasks) refl refl refl it
       where
-        on : (joined knows : Bool) (child : Option Task) → is_among future mid.log.log.joined ≡ joined → has_name mid.knows future ≡ knows → named future tasks ≡ child
+        on : (joined knows : Bool) (child : Option Task) → is_among future mid.log.log.joined ≡ joined → is_known mid.knows future ≡ knows → named future tasks ≡ child
             → WentBy (cond joined None (cond knows child None)) future mid parts found → After k parts found
         on true knows child among known there so = passes parts found (joined_before among) so
         on false false child apart none there so = passes parts found (unknown none) so
@@ -156,7 +156,7 @@ module _ (start : Start) (at : Spot) (base finished : Name → Option Datum) (ol
     base_is = ap (λ (l : SnapshotTask). l.base) of.log_is;
     depth_is = ap (λ (l : SnapshotTask). l.depth) of.log_is;
     actor_is = ap (λ (l : SnapshotTask). l.actor) of.log_is;
-    knows_in = λ g among. members.knows_there start at base finished old new name moved (halt.Value v) run is move stays_so g (sym (of.knows_so g) ∙ among);
+    knows_in = λ g among. members.knows_there start at base finished old new name moved (halt.Value v) run is move stays_so g (sym (ap (λ (k : Knowledge). is_known k g) of.knows_is) ∙ among);
     reads_in = λ ref among. (run.members name t is.there).reads_so ref (ap (λ (l : SnapshotTask). is_among ref l.reads) (sym of.log_is) ∙ among);
     stands = λ around results each first. first;
   }
@@ -179,7 +179,7 @@ module _ (start : Start) (at : Spot) (base finished : Name → Option Datum) (ol
     where
       begins_at : (around : Around) (results : Name → Result) → IsAt around results name (task_at (levels_below t.log.depth) t.log.base t.knows.keys t.log.log (Closing v 0)) → At around results before (Closing v 0)
       begins_at around results at_it = subst (λ (l : SnapshotTask). IsAt around results name (task_at (levels_below t.log.depth) t.log.base before.knows.keys l.log (Closing v 0))) (sym of.log_is)
-          (record { known = at_it.known; matches = matches_same results t.knows.keys before.knows.keys at_it.known of.knows_so at_it.matches; comes = at_it.comes })
+          (record { known = at_it.known; matches = matches_same results t.knows.keys before.knows.keys at_it.known (λ g. ap (λ (k : Knowledge). is_known k g) of.knows_is) at_it.matches; comes = at_it.comes })
 
   pub close_came : (after : Parts) (stop : Went) (found : Stepped) → AllWent old.tasks before after stop → CameClose name moved v after stop old.tasks new.tasks found → IsRun start at base finished new
   close_came after went.On found all came =

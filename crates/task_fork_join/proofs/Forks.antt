@@ -34,7 +34,7 @@ use Rattle.value_core.specs.declared.code.Code.TheVariants as code
 use Rattle.value_core.specs.declared.value.Value.{Value as Datum}
 use Rattle.value_core.specs.declared.value.Value.TheVariants as value
 use Rattle.value_core.specs.NameOrder.{same_name_equiv}
-use Rattle.value_core.specs.NameSet.{has_name}
+use Rattle.task_fork_join.specs.Knowledge.{Knowledge, is_known}
 use Rattle.value_core.specs.Named.{Name, Named, is_among, made_by, named, over, same_name, with_named, IsChangedTo}
 use Rattle.value_core.specs.Place.{Spot}
 
@@ -99,7 +99,7 @@ module _ (start : Start) (at : Spot) (base finished : Name → Option Datum) (ol
         ∙ ap (λ n. task_at (suc left) t.log.base f.parent.knows.keys (with_made t.log.log) (goes_on n)) future_is
 
     knows_more : (g : Name) → is_among g f.parent.knows.keys ≡ (same_name (name ++ t.log.log.made ∷ []) g || is_among g t.knows.keys)
-    knows_more g = forked_so.parent_knows g ∙ turned (has_name t.knows g) (same_name g f.future) ∙ ap (λ b. b || is_among g t.knows.keys) (same_name_equiv.symm g f.future ∙ ap (λ n. same_name n g) future_is)
+    knows_more g = forked_so.parent_knows.keys g ∙ turned (is_known t.knows g) (same_name g f.future) ∙ ap (λ b. b || is_among g t.knows.keys) (same_name_equiv.symm g f.future ∙ ap (λ n. same_name n g) future_is)
       where
         turned : (a b : Bool) → (a || b) ≡ (b || a)
         turned true true = refl
@@ -142,7 +142,7 @@ module _ (start : Start) (at : Spot) (base finished : Name → Option Datum) (ol
     forked = record {
       runs = subst (λ (rs : List Name). Runs start base finished (tasks_of new.tasks) rs) (sym reads_are) (subst (λ ts. Runs start base finished ts old.reads) (sym tasks_are)
           (forks-run (tasks_of old.tasks) run.runs.formed name (tree_task t) (view_found tree_task name old.tasks t is.there) left t.log.base t.knows.keys t.log.log moved.body moved.values moved.answers
-          parent_was body values f.parent.knows.keys knows_more f.child.knows.keys forked_so.child_knows start base finished old.reads place run.runs move.halts_so));
+          parent_was body values f.parent.knows.keys knows_more f.child.knows.keys (λ g. ap (λ (k : Knowledge). is_known k g) forked_so.child_knows) start base finished old.reads place run.runs move.halts_so));
       members = subst (AreMembers start new.reads) (sym to.put)
           (each-put (λ n (s : Task). IsMember start new.reads s) name to.item (with_named old.tasks f.future begins)
           (each-put (λ n (s : Task). IsMember start new.reads s) f.future begins old.tasks (λ n s there. member_still s (run.members n s there)) child_member)

@@ -1,7 +1,6 @@
 -- A join that a task asks for.
 use Rattle.std.proofs.Common.{◌≡◌, ◌∙◌, ℕ, ◌≤◌, Bool, true, false, cond, List, [], ◌∷◌, ◌++◌, refl, sym, ap, subst, Option, Some, None, arith}
 use Rattle.std.specs.Prelude.{◌||◌, is_some, IfSome}
-use Rattle.std.specs.BTreeSet.{BTreeSet}
 use Rattle.std.specs.Option.{option_map}
 use Rattle.eval_step.specs.Evaluation.{Evaluation}
 use Rattle.serial_model.proofs.standing.Requests as step
@@ -36,7 +35,7 @@ use Rattle.task_fork_join.specs.Stepping.{IsAnswered, IsGiven, IsWaiting}
 use Rattle.txn_snapshot.specs.SnapshotTask.{SnapshotTask, AreAmong}
 use Rattle.value_core.proofs.NamedViews.{named-each_as, view_found}
 use Rattle.value_core.specs.declared.value.Value.{Value as Datum}
-use Rattle.value_core.specs.NameSet.{has_name}
+use Rattle.task_fork_join.specs.Knowledge.{is_known}
 use Rattle.value_core.specs.Named.{Name, Named, is_among, named, with_named}
 use Rattle.value_core.specs.Place.{Spot}
 
@@ -114,13 +113,13 @@ module _ (start : Start) (at : Spot) (base finished : Name → Option Datum) (ol
     asks = halt.Ask (request.Join future) place
 
     -- a plain task
-    pub plain : (outer : Option Datum) (found : Stepped) → has_name t.knows future ≡ false → IfSome outer (λ v. finished future ≡ Some v) → CamePlain name moved future outer old.tasks new.tasks found
+    pub plain : (outer : Option Datum) (found : Stepped) → is_known t.knows future ≡ false → IfSome outer (λ v. finished future ≡ Some v) → CamePlain name moved future outer old.tasks new.tasks found
         → IsRun start at base finished new
     plain None found unknown done came = waited start at base finished old new name moved run is stays_so asks move (stepped_as.WaitJoin future) found came reads_are
     plain (Some v) found unknown done came = answered asks move (answer.Value v) found came (λ around agrees results each so at_it.
         step.plain around results name levels t.log.base t.knows.keys t.log.log moved.body moved.values moved.answers at_it future place v so unknown (agrees.finished_so future v done))
 
-    module _ (known : has_name t.knows future ≡ true) (child : Task) (there : named future old.tasks ≡ Some child) where
+    module _ (known : is_known t.knows future ≡ true) (child : Task) (there : named future old.tasks ≡ Some child) where
       formed_so : child.log.log.name ≡ future
       formed_so = (run.runs.formed future (tree_task child) (view_found tree_task future old.tasks child there)).named_so
 
@@ -143,7 +142,7 @@ module _ (start : Start) (at : Spot) (base finished : Name → Option Datum) (ol
                 (ap (λ (l : SnapshotTask). is_among ref l.reads) (sym merges.log_is) ∙ ap (λ (s : Task). is_among ref s.log.reads) (sym to.related) ∙ among);
           })
           refl (omega arith)
-          (λ f among. of_both (is_there (tasks_of old.tasks) f) (has_name t.knows f) (has_name child.knows f) (sym (merges.both f) ∙ among)
+          (λ f among. of_both (is_there (tasks_of old.tasks) f) (is_known t.knows f) (is_known child.knows f) (sym (merges.both f) ∙ among)
           (members.knows_there start at base finished old new name moved asks run is move stays_so f) (child_knows f))
           (λ around agrees results each so at_it.
           step.joined_first around results name levels t.log.base t.knows.keys t.log.log moved.body moved.values moved.answers at_it future place so known
@@ -167,12 +166,12 @@ module _ (start : Start) (at : Spot) (base finished : Name → Option Datum) (ol
           (levels_below child.log.depth) child.log.base child.knows.keys child.log.log (outcome_of e) (bad e by.1) (child_at around results old.tasks future child e each there by.0))
 
     pub joined : (outer : Option Datum) (found : Stepped) → IfSome outer (λ v. finished future ≡ Some v) → IsJoin name moved future outer old.tasks new.tasks found → IsRun start at base finished new
-    joined outer found done join = on (has_name t.knows future) (named future old.tasks) refl refl (join.met_so t is.there)
+    joined outer found done join = on (is_known t.knows future) (named future old.tasks) refl refl (join.met_so t is.there)
       where
-        unknown : (meets : Met) → meets ≡ met.Unknown → has_name t.knows future ≡ false → CameJoin name moved future outer meets old.tasks new.tasks found → IsRun start at base finished new
+        unknown : (meets : Met) → meets ≡ met.Unknown → is_known t.knows future ≡ false → CameJoin name moved future outer meets old.tasks new.tasks found → IsRun start at base finished new
         unknown meets same apart came = plain outer found apart done (subst (λ m. CameJoin name moved future outer m old.tasks new.tasks found) same came)
 
-        on : (b : Bool) (child : Option Task) → has_name t.knows future ≡ b → named future old.tasks ≡ child → IsMetAs (cond b child None) t future join.meets → IsRun start at base finished new
+        on : (b : Bool) (child : Option Task) → is_known t.knows future ≡ b → named future old.tasks ≡ child → IsMetAs (cond b child None) t future join.meets → IsRun start at base finished new
         on false child apart there it = unknown join.meets it apart join.came
         on true None known none it = absurd (let here = members.knows_there start at base finished old new name moved asks run is move stays_so future known in let lost = not_there old.tasks future none in cc)
         on true (Some child) known there it = met_known known child there join.meets outer found it join.came

@@ -6,7 +6,9 @@ pub mod Forks
 pub mod Halts
 pub mod Joins
 pub mod KeptTasks
+pub mod Kinship
 pub mod Members
+pub mod Missing
 pub mod Replying
 pub mod Staying
 pub mod StepShapes

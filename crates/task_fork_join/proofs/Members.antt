@@ -16,7 +16,7 @@ use Rattle.task_fork_join.specs.declared.task.Task.{Task}
 use Rattle.task_fork_join.specs.Running.{AreMembers, IsMachine, IsMember, IsMove, IsRun}
 use Rattle.task_fork_join.specs.Step.{Stays}
 use Rattle.task_fork_join.specs.Stepping.{IsGiven}
-use Rattle.txn_snapshot.proofs.ReadLaws.{among-with_read}
+use Rattle.shared_map.proofs.NameLaws.{among-with_member}
 use Rattle.txn_snapshot.specs.Reads.{with_read}
 use Rattle.txn_snapshot.specs.SnapshotTask.{AreAmong}
 use Rattle.value_core.proofs.NamedLaws.{each-put, same_name-equal, same_name-itself}
@@ -32,7 +32,7 @@ unchanged k old new R none x found = absurd (let e : None ≡ Some x = sym none 
 -- ---- refs that were read
 -- one ref more
 pub among_one : (ns more : List Name) (ref : Name) → AreAmong ns more → is_among ref more ≡ true → AreAmong (with_read ns ref) more
-among_one ns more ref all there q among = on (same_name q ref) refl (sym (among-with_read q ns ref) ∙ among)
+among_one ns more ref all there q among = on (same_name q ref) refl (sym (among-with_member q ns ref) ∙ among)
   where
     on : (b : Bool) → same_name q ref ≡ b → (b || is_among q ns) ≡ true → is_among q more ≡ true
     on true same so = ap (λ n. is_among n more) (same_name-equal q ref same) ∙ there

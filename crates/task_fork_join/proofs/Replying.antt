@@ -19,7 +19,8 @@ use Rattle.task_fork_join.specs.declared.task.Task.{Task}
 use Rattle.task_fork_join.specs.Running.{HasMachine, IsMachine, IsMember, IsMove, IsRun}
 use Rattle.task_fork_join.specs.Step.{Stays}
 use Rattle.task_fork_join.specs.Stepping.{noted, CameReply, Gone, IsActed, IsGiven, IsWaiting}
-use Rattle.txn_snapshot.proofs.ReadLaws.{among-itself, among-with_read}
+use Rattle.shared_map.proofs.NameLaws.{among-with_member}
+use Rattle.txn_snapshot.proofs.ReadLaws.{among-itself}
 use Rattle.txn_snapshot.proofs.Replies.{same_reply, stays}
 use Rattle.txn_snapshot.proofs.TreeAnswers.{answers_keep_runs}
 use Rattle.txn_snapshot.specs.declared.answered.Answered.{Answered}
@@ -64,7 +65,7 @@ acting task after asked reads given (Some x) all none is =
     still task after asked reads all (sym (ap (λ (r : Reply). r.1.reads) (same_reply (acts task asked x) (answered.Now given, after) is))) none
 
 more_read : (reads : List Name) (ref : Name) → AreAmong reads (with_read reads ref)
-more_read reads ref q among = among-with_read q reads ref ∙ ap (λ b. same_name q ref || b) among ∙ truly (same_name q ref)
+more_read reads ref q among = among-with_member q reads ref ∙ ap (λ b. same_name q ref || b) among ∙ truly (same_name q ref)
   where
     truly : (b : Bool) → (b || true) ≡ true
     truly true = refl

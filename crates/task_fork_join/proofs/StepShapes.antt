@@ -31,7 +31,7 @@ use Rattle.txn_snapshot.specs.declared.answered.Answered.{Answered}
 use Rattle.txn_snapshot.specs.declared.answered.Answered.TheVariants as answered
 use Rattle.value_core.proofs.NamedLaws.{named-here, named-with_named, same_name-equal}
 use Rattle.value_core.specs.declared.value.Value.{Value}
-use Rattle.value_core.specs.NameSet.{has_name}
+use Rattle.task_fork_join.specs.Knowledge.{is_known}
 use Rattle.value_core.specs.Named.{Name, Named, is_among, made_by, named, same_name, with_named, IsChangedTo}
 use Rattle.value_core.specs.Place.{Spot}
 
@@ -161,7 +161,7 @@ module _ (name : Name) (tasks new : Named Task) (outer : Option Value) (h : Halt
   join-shape moved f at went asks is = by (known_in tasks t.knows f) refl is.meets (is.met_so t there) is.came
     where
       known-there : (child : Task) → known_in tasks t.knows f ≡ Some child → named f tasks ≡ Some child
-      known-there child e = held (has_name t.knows f) e
+      known-there child e = held (is_known t.knows f) e
         where
           held : (c : Bool) → (if c then named f tasks else None) ≡ Some child → named f tasks ≡ Some child
           held true e = e
@@ -204,7 +204,7 @@ module _ (name : Name) (tasks new : Named Task) (outer : Option Value) (h : Halt
           stage : (s : Stage) → child.stage ≡ s → WentAt s q child parts last (went_as.Waits f) → GoesAt tasks f
           stage (kept.Going machine) is so = let same : f ≡ q = cc in record {
             task = child;
-            there = ap (λ n. named n tasks) same ∙ among (is_among q parts.log.log.joined) (has_name parts.knows q) e;
+            there = ap (λ n. named n tasks) same ∙ among (is_among q parts.log.log.joined) (is_known parts.knows q) e;
             going = subst (λ s. IsGoing s) (sym is) tt;
           }
           stage (kept.Ended (end.Value v)) is so = let no = so.1 in cc

@@ -12,11 +12,12 @@ use Rattle.task_fork_join.specs.declared.task.Stage.TheVariants as kept
 use Rattle.task_fork_join.specs.declared.task.Task.{Task}
 use Rattle.task_fork_join.specs.declared.task_end.TaskEnd.{TaskEnd}
 use Rattle.task_fork_join.specs.declared.task_end.TaskEnd.TheVariants as end
+use Rattle.task_fork_join.specs.Knowledge.{Covers, Knowledge, is_known, no_names}
 use Rattle.txn_snapshot.specs.Laws.{in_tree}
 use Rattle.txn_snapshot.specs.SnapshotTask.{SnapshotTask, new_task}
 use Rattle.value_core.specs.declared.code.Code.TheVariants as code
 use Rattle.value_core.specs.Futures.{holds_future}
-use Rattle.value_core.specs.Named.{Name, Named, each_as, made_by, named}
+use Rattle.value_core.specs.Named.{Name, Named, Rises, each_as, made_by, named}
 use Rattle.value_core.specs.Place.{Spot}
 
 -- The root's name; the tasks by name; the refs that they read from the store; the actor whose turn it is, where there is one;
@@ -100,10 +101,26 @@ abbrev pub IsInside : KeptStage → Type 0
 IsInside (kept.Going machine) = machine.inside ≡ true
 IsInside (kept.Ended ended) = Unit {0}
 
--- the tasks of an attempt: the root is there, and all that go on are inside a transaction
+-- what is known there of the tasks: a task that is known covers what is known, but for what it came to know itself
+abbrev pub IsKin : Named Task → Knowledge → Type 0
+IsKin tasks knows = (m : Name) (c : Task) → is_known knows m ≡ true → named m tasks ≡ Some c → Covers knows c.knows
+
+-- the tasks that are known are there
+abbrev pub IsOfTasks : Named Task → Knowledge → Type 0
+IsOfTasks tasks knows = (g : Name) → is_known knows g ≡ true → IsSome (named g tasks)
+
+-- so it is with what each task knows
+pub record AreKin (tasks : Named Task) : Type 0 where
+  pub there : (name : Name) (t : Task) → named name tasks ≡ Some t → IsOfTasks tasks t.knows
+  pub kin : (name : Name) (t : Task) → named name tasks ≡ Some t → IsKin tasks t.knows
+
+-- the tasks of an attempt: the root is there; all that go on are inside a transaction; what they know is of one another; and their
+-- names rise
 pub record AreTasks (root : Name) (tasks : Named Task) : Type 0 where
   pub rooted : IsSome (named root tasks)
   pub inside : (name : Name) (t : Task) → named name tasks ≡ Some t → IsInside t.stage
+  pub kin : AreKin tasks
+  pub rises : Rises tasks
 
 -- the task of that name has not finished, and its machine evaluates the same as this one and has the same answers
 pub record IsKept (name : Name) (moved : Evaluation) (tasks : Named Task) : Type 0 where
@@ -122,7 +139,7 @@ pub record IsRootAlone (root : Name) (actor : Option Name) (machine : Evaluation
   pub task : Task
   pub tasks_are : tasks ≡ (root, task) ∷ []
   pub log_is : task.log ≡ new_task root [] 0 actor
-  pub knows_none : task.knows.keys ≡ []
+  pub knows_none : task.knows ≡ no_names
   pub goes : task.stage ≡ kept.Going machine
 
 -- an attempt of its root alone, whose dosync stands at that place

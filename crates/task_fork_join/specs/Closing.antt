@@ -15,7 +15,6 @@ use Rattle.task_fork_join.specs.declared.task_end.TaskEnd.TheVariants as end
 use Rattle.task_fork_join.specs.Joining.{known_in, IsMerged}
 use Rattle.task_fork_join.specs.Stepping.{HasParts, IsWaiting}
 use Rattle.value_core.specs.declared.value.Value.{Value as Datum}
-use Rattle.value_core.specs.NameSet.{has_name}
 use Rattle.value_core.specs.Named.{Name, Named, is_among, made_by, named, IsChanged}
 
 -- the known task of the future, where it is still to be joined
@@ -67,10 +66,10 @@ CameClose name moved v parts went.On old new found = IsFinished name parts (end.
 CameClose name moved v parts (went.Waits future) old new found = IsWaiting name moved (stepped.WaitJoin future) old new found
 CameClose name moved v parts (went.Ended e) old new found = IsFinished name parts e old new found
 
--- the parts of the task, the names that it knows as a set
+-- the parts of the task
 pub record ArePartsOf (t : Task) (parts : Parts) : Type 0 where
   pub log_is : parts.log ≡ t.log
-  pub knows_so : (g : Name) → has_name parts.knows g ≡ has_name t.knows g
+  pub knows_is : parts.knows ≡ t.knows
 
 -- that comes of the joins of the task of that name
 pub record AreJoins (name : Name) (tasks : Named Task) (closed : Closed) : Type 0 where

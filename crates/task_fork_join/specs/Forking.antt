@@ -1,5 +1,5 @@
 -- A child that is forked.
-use Rattle.std.specs.Prelude.{◌≡◌, ◌||◌, ◌+◌, ◌<◌, ℕ, List, [], length, true, Option, Some}
+use Rattle.std.specs.Prelude.{◌≡◌, ◌||◌, ◌+◌, ◌<◌, ℕ, List, [], length, true, Option, None, Some}
 use Rattle.core_syntax.specs.declared.node_id.NodeId.{NodeId}
 use Rattle.core_syntax.specs.Table.{Table}
 use Rattle.eval_step.specs.Evaluation.{Evaluation, IsOf}
@@ -15,7 +15,7 @@ use Rattle.txn_snapshot.specs.SnapshotTask.{having_forked, new_task}
 use Rattle.value_core.specs.declared.code.Code.TheVariants as code
 use Rattle.value_core.specs.declared.value.Value.{Value as Datum}
 use Rattle.value_core.specs.declared.value.Value.TheVariants as value
-use Rattle.value_core.specs.NameSet.{has_name}
+use Rattle.task_fork_join.specs.Knowledge.{HasLearned}
 use Rattle.value_core.specs.Named.{Name, Named, made_by, named, over, same_name, with_named, IsChanged}
 
 -- the machine is to evaluate that body inside a transaction
@@ -31,12 +31,13 @@ pub record IsBegun (fuel : ℕ) (body : NodeId) (values : List Datum) (machine :
 pub record IsForked (t : Task) (actor : Option Name) (f : Forked) : Type 0 where
   pub future_is : f.future ≡ made_by t.log.log.name t.log.log.made
   pub child_log : f.child.log ≡ new_task f.future (over t.log.log.writes t.log.base) (t.log.depth + 1) actor
-  pub child_knows : (g : Name) → has_name f.child.knows g ≡ has_name t.knows g
+  pub child_knows : f.child.knows ≡ record { keys = t.knows.keys; since = [] }
   pub parent_log : f.parent.log ≡ having_forked t.log
-  pub parent_knows : (g : Name) → has_name f.parent.knows g ≡ (has_name t.knows g || same_name g f.future)
+  pub parent_knows : HasLearned f.future t.knows f.parent.knows
 
--- the child is there, and the task goes on with its future
+-- the child is there, whose name was not taken, and the task goes on with its future
 pub record IsPut (name : Name) (moved : Evaluation) (f : Forked) (child : Evaluation) (old new : Named Task) (found : Stepped) : Type 0 where
+  pub fresh : named f.future old ≡ None
   pub machine : Evaluation
   pub given_so : IsGiven moved (answer.Value (value.Future f.future)) machine
   pub tasks : IsChanged name (with_named old f.future (record { log = f.child.log; knows = f.child.knows; stage = kept.Going child })) new (HasParts f.parent (kept.Going machine))

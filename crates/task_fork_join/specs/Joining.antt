@@ -1,6 +1,5 @@
 -- What a join comes to.
 use Rattle.std.specs.Prelude.{◌≡◌, ◌||◌, true, false, Option, None, Some, if◌then◌else◌}
-use Rattle.std.specs.BTreeSet.{BTreeSet}
 use Rattle.eval_step.specs.Evaluation.{Evaluation}
 use Rattle.serial_model.specs.declared.answer.Answer.TheVariants as answer
 use Rattle.task_fork_join.specs.declared.joining.Joined.{Joined}
@@ -17,17 +16,18 @@ use Rattle.task_fork_join.specs.declared.task_end.TaskEnd.TheVariants as end
 use Rattle.task_fork_join.specs.Stepping.{Gone, HasParts, IsAnswered, IsGiven, IsWaiting}
 use Rattle.txn_snapshot.specs.SnapshotTask.{SnapshotTask, having_merged}
 use Rattle.value_core.specs.declared.value.Value.{Value as Datum}
-use Rattle.value_core.specs.NameSet.{has_name}
+use Rattle.task_fork_join.specs.Knowledge.{Knowledge, is_known}
 use Rattle.value_core.specs.Named.{Name, Named, is_among, named, IsChanged}
 
 -- the task of a future, where it is among those that are known
-abbrev pub known_in : Named Task → BTreeSet Name → Name → Option Task
-known_in tasks knows future = if has_name knows future then named future tasks else None
+abbrev pub known_in : Named Task → Knowledge → Name → Option Task
+known_in tasks knows future = if is_known knows future then named future tasks else None
 
 -- the child of that future is merged, and what it knows is known
-pub record IsMerged (future : Name) (child : Task) (log : SnapshotTask) (knows : BTreeSet Name) (parts : Parts) : Type 0 where
+pub record IsMerged (future : Name) (child : Task) (log : SnapshotTask) (knows : Knowledge) (parts : Parts) : Type 0 where
   pub log_is : parts.log ≡ having_merged log future child.log
-  pub both : (g : Name) → has_name parts.knows g ≡ (has_name knows g || has_name child.knows g)
+  pub both : (g : Name) → is_known parts.knows g ≡ (is_known knows g || is_known child.knows g)
+  pub since : (g : Name) → is_among g parts.knows.since ≡ (is_among g knows.since || is_among g child.knows.since)
 
 -- an end that is no value
 abbrev pub IsNoValue : TaskEnd → Type 0

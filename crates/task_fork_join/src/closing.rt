@@ -1,7 +1,9 @@
 // The joins at the value of a task.
 ghost use Rattle.std.specs.Prelude.{◌≡◌, false, IfOk, OnErr};
 ghost use Rattle.std.specs.Option.{IsSome};
+ghost use Rattle.task_fork_join.specs.Attempt.{AreKin, IsKin, IsOfTasks};
 ghost use Rattle.task_fork_join.specs.Closing.{AllWent, AreJoins, CameClose, IsClose, IsFinished, IsWent, WentAt};
+ghost use Rattle.task_fork_join.specs.Knowledge.{Covers};
 ghost use Rattle.value_core.specs.Named.{is_among, named};
 
 use crate::copies::copy_parts;
@@ -39,7 +41,8 @@ pub(crate) fn close(
     moved: Machine,
     value: Value,
 ) -> Result<Stepped, AllocError>
-    requires { IsSome (named name.now tasks.old.entries) }
+    requires there { IsSome (named name.now tasks.old.entries) }
+    requires kin { AreKin tasks.old.entries }
     ensures close { IfOk result (IsClose name.now moved value tasks.old.entries tasks.new.entries) }
     ensures same { OnErr result (tasks.new.entries ≡ tasks.old.entries) }
 {
@@ -49,7 +52,8 @@ pub(crate) fn close(
 
 /// What comes of the joins at the value of the task of that name.
 fn joins_of(tasks: &BTreeMap<Name, Task>, alloc: Global, name: &Name) -> Result<Closed, AllocError>
-    requires { IsSome (named name.now tasks.now.entries) }
+    requires there { IsSome (named name.now tasks.now.entries) }
+    requires kin { AreKin tasks.now.entries }
     ensures { IfOk result (AreJoins name.now tasks.now.entries) }
 {
     let mut parts = copy_parts(alloc, task_of(tasks, name))?;
@@ -85,6 +89,9 @@ fn close_children(
     alloc: Global,
     parts: &mut Parts,
 ) -> Result<Went, AllocError>
+    requires kin { AreKin tasks.now.entries }
+    requires own { IsKin tasks.now.entries parts.old.knows }
+    requires there { IsOfTasks tasks.now.entries parts.old.knows }
     ensures { IfOk result (AllWent tasks.now.entries parts.old parts.new) }
 {
     for number in 0..parts.log.made() {
@@ -104,6 +111,7 @@ fn close_child(
     parts: &mut Parts,
     number: u32,
 ) -> Result<Went, AllocError>
+    requires { IsKin tasks.now.entries parts.old.knows }
     ensures { IfOk result (IsWent tasks.now.entries number parts.old parts.new) }
 {
     let future = parts.log.made_at(alloc, number)?;
@@ -123,7 +131,8 @@ fn close_task(
     child: &Task,
     future: Name,
 ) -> Result<Went, AllocError>
-    requires { is_among future parts.old.log.log.joined ≡ false }
+    requires apart { is_among future parts.old.log.log.joined ≡ false }
+    requires covers { Covers parts.old.knows child.now.knows }
     ensures { IfOk result (WentAt child.now.stage future child.now parts.old parts.new) }
 {
     match &child.stage {

@@ -1,54 +1,62 @@
 // Copies of what a task keeps, and the machine of a task that is answered.
-ghost use Rattle.std.specs.Prelude.{◌≡◌, ◌||◌, IfOk, OnOk};
-ghost use Rattle.value_core.specs.NameSet.{has_name};
-ghost use Rattle.value_core.specs.Named.{Name as Naming};
+ghost use Rattle.std.specs.Prelude.{◌≡◌, IfOk};
 ghost use Rattle.eval_step.specs.Evaluation.{IsAsking};
 ghost use Rattle.task_fork_join.specs.Closing.{ArePartsOf};
 ghost use Rattle.task_fork_join.specs.Stepping.{IsGiven};
+ghost use Rattle.value_core.specs.Named.{Rises};
 
-use crate::task::{Parts, Task};
+use crate::task::{Parts, Stage, Task};
 use eval_step::Machine;
 use serial_model::Answer;
 use std::alloc::{AllocError, Global};
-use std::collections::BTreeSet;
+use std::collections::BTreeMap;
 use value_core::Name;
-use value_core::name_set::add;
-
-/// The same names.
-pub(crate) fn copy_names(
-    alloc: Global,
-    names: &BTreeSet<Name>,
-) -> Result<BTreeSet<Name>, AllocError>
-    ensures { IfOk result (λ copied. (g : Naming) → has_name copied g ≡ has_name names.now g) }
-{
-    let mut copied = BTreeSet::new(alloc);
-    learn(alloc, &mut copied, names)?;
-    Ok(copied)
-}
-
-/// Adds the names to those that are known.
-pub(crate) fn learn(
-    alloc: Global,
-    known: &mut BTreeSet<Name>,
-    more: &BTreeSet<Name>,
-) -> Result<(), AllocError>
-    ensures { OnOk result ((g : Naming) → has_name known.new g ≡ (has_name known.old g || has_name more.now g)) }
-{
-    for name in more {
-        add(known, name.copy(alloc)?)?;
-    }
-    Ok(())
-}
+use value_core::name_map::put;
 
 /// What the task has done, and what it knows.
 pub(crate) fn copy_parts(alloc: Global, task: &Task) -> Result<Parts, AllocError>
     ensures { IfOk result (ArePartsOf task.now) }
 {
-    let knows = copy_names(alloc, &task.knows)?;
+    let knows = task.knows.copy()?;
     Ok(Parts {
         log: task.log.copy(alloc)?,
         knows,
     })
+}
+
+/// Equal tasks.
+pub(crate) fn copy_tasks(
+    alloc: Global,
+    tasks: &BTreeMap<Name, Task>,
+) -> Result<BTreeMap<Name, Task>, AllocError>
+    requires { Rises tasks.now.entries }
+    ensures { IfOk result (λ copied. copied.entries ≡ tasks.now.entries) }
+{
+    let mut copied = BTreeMap::new(alloc);
+    for (name, task) in tasks {
+        let task = copy_task(alloc, task)?;
+        put(&mut copied, name.copy(alloc)?, task)?;
+    }
+    Ok(copied)
+}
+
+/// An equal task.
+fn copy_task(alloc: Global, task: &Task) -> Result<Task, AllocError>
+    ensures { IfOk result (λ copied. copied ≡ task.now) }
+{
+    let stage = copy_stage(alloc, &task.stage)?;
+    let Parts { log, knows } = copy_parts(alloc, task)?;
+    Ok(Task { log, knows, stage })
+}
+
+/// An equal stage.
+fn copy_stage(alloc: Global, stage: &Stage) -> Result<Stage, AllocError>
+    ensures { IfOk result (λ copied. copied ≡ stage.now) }
+{
+    match stage {
+        Stage::Going(machine) => Ok(Stage::Going(machine.copy(alloc)?)),
+        Stage::Ended(ended) => Ok(Stage::Ended(ended.copy(alloc)?)),
+    }
 }
 
 /// The machine goes on with the answer.

@@ -1,5 +1,5 @@
 // Forks.
-ghost use Rattle.std.specs.Prelude.{◌≡◌, ◌<◌, ◌+◌, ◌||◌, IfOk, OnErr, OnOk};
+ghost use Rattle.std.specs.Prelude.{◌≡◌, ◌<◌, ◌+◌, [], None, IfOk, OnErr, OnOk};
 ghost use Rattle.std.specs.Option.{IsSome};
 ghost use Rattle.eval_step.specs.Evaluation.{IsAsking};
 ghost use Rattle.serial_model.specs.declared.answer.Answer.TheVariants as answer_of;
@@ -9,23 +9,21 @@ ghost use Rattle.task_fork_join.specs.Forking.{CameFork, IsBegun, IsForked, IsPu
 ghost use Rattle.task_fork_join.specs.Stepping.{HasParts, IsGiven};
 ghost use Rattle.txn_snapshot.specs.SnapshotTask.{new_task};
 ghost use Rattle.value_core.specs.declared.value.Value.TheVariants as value_of;
-ghost use Rattle.value_core.specs.NameSet.{has_name, IsWith};
-ghost use Rattle.value_core.specs.Named.{Name as Naming, named, same_name, with_named, IsChanged};
+ghost use Rattle.task_fork_join.specs.Knowledge.{HasLearned};
+ghost use Rattle.value_core.specs.Named.{named, with_named, IsChanged};
 
 use crate::Stepped;
-use crate::copies::{copy_names, copy_parts, give};
+use crate::copies::{copy_parts, give};
 use crate::joining::reply;
 use crate::task::{Parts, Stage, Task, machine_goes};
 use crate::tasks::{set, task_of};
 use core_syntax::NodeId;
 use eval_step::Machine;
-use ref_store::Writes;
 use serial_model::Answer;
 use std::alloc::{AllocError, Global};
-use std::collections::{BTreeMap, BTreeSet};
-use txn_snapshot::{ForkView, TaskLog};
-use value_core::name_map::put;
-use value_core::name_set::add;
+use std::collections::BTreeMap;
+use txn_snapshot::{ForkView, TaskLog, View};
+use value_core::name_map::{find, put};
 use value_core::{Code, Name, Value, Values};
 
 // So many forks below the root no task forks.
@@ -136,10 +134,10 @@ fn split(
 ) -> Result<Forked, AllocError>
     requires { task.now.log.depth < 16 }
     ensures future { IfOk result (λ forked. forked.future ≡ fork.future) }
-    ensures child { IfOk result (λ forked. forked.child.log ≡ new_task fork.future fork.view.items (task.now.log.depth + 1) actor.now) }
-    ensures child_knows { IfOk result (λ forked. (g : Naming) → has_name forked.child.knows g ≡ has_name task.now.knows g) }
+    ensures child { IfOk result (λ forked. forked.child.log ≡ new_task fork.future fork.view (task.now.log.depth + 1) actor.now) }
+    ensures child_knows { IfOk result (λ forked. forked.child.knows ≡ record { keys = task.now.knows.keys; since = [] }) }
     ensures parent { IfOk result (λ forked. forked.parent.log ≡ counted.log) }
-    ensures parent_knows { IfOk result (λ forked. (g : Naming) → has_name forked.parent.knows g ≡ (has_name counted.knows g || same_name g fork.future)) }
+    ensures parent_knows { IfOk result (λ forked. HasLearned fork.future counted.knows forked.parent.knows) }
 {
     let ForkView { future, view } = fork;
     let child = new_parts(alloc, task, actor, &future, view)?;
@@ -151,22 +149,15 @@ fn whole(alloc: Global, future: Name, child: Parts, counted: Parts) -> Result<Fo
     ensures future { IfOk result (λ forked. forked.future ≡ future) }
     ensures child { IfOk result (λ forked. forked.child ≡ child) }
     ensures parent { IfOk result (λ forked. forked.parent.log ≡ counted.log) }
-    ensures parent_knows { IfOk result (λ forked. (g : Naming) → has_name forked.parent.knows g ≡ (has_name counted.knows g || same_name g future)) }
+    ensures parent_knows { IfOk result (λ forked. HasLearned future counted.knows forked.parent.knows) }
 {
     let mut parent = counted;
-    learn_one(alloc, &mut parent.knows, &future)?;
+    parent.knows.learn(alloc, &future)?;
     Ok(Forked {
         future,
         child,
         parent,
     })
-}
-
-/// The names with one more.
-fn learn_one(alloc: Global, knows: &mut BTreeSet<Name>, future: &Name) -> Result<(), AllocError>
-    ensures { OnOk result (IsWith future.now knows.old knows.new) }
-{
-    add(knows, future.copy(alloc)?)
 }
 
 /// What a child has done that has done nothing, and what it knows.
@@ -175,13 +166,13 @@ fn new_parts(
     task: &Task,
     actor: &Option<Name>,
     future: &Name,
-    view: Writes,
+    view: View,
 ) -> Result<Parts, AllocError>
     requires { task.now.log.depth < 16 }
-    ensures log { IfOk result (λ parts. parts.log ≡ new_task future.now view.items (task.now.log.depth + 1) actor.now) }
-    ensures knows { IfOk result (λ parts. (g : Naming) → has_name parts.knows g ≡ has_name task.now.knows g) }
+    ensures log { IfOk result (λ parts. parts.log ≡ new_task future.now view (task.now.log.depth + 1) actor.now) }
+    ensures knows { IfOk result (λ parts. parts.knows ≡ record { keys = task.now.knows.keys; since = [] }) }
 {
-    let knows = copy_names(alloc, &task.knows)?;
+    let knows = task.knows.for_child(alloc)?;
     let log = new_log(alloc, actor, future, view, task.log.depth() + 1)?;
     Ok(Parts { log, knows })
 }
@@ -191,10 +182,10 @@ pub(crate) fn new_log(
     alloc: Global,
     actor: &Option<Name>,
     future: &Name,
-    view: Writes,
+    view: View,
     depth: u32,
 ) -> Result<TaskLog, AllocError>
-    ensures { IfOk result (λ log. log ≡ new_task future.now view.items depth actor.now) }
+    ensures { IfOk result (λ log. log ≡ new_task future.now view depth actor.now) }
 {
     let actor = copy_actor(alloc, actor)?;
     let name = future.copy(alloc)?;
@@ -202,7 +193,7 @@ pub(crate) fn new_log(
 }
 
 /// The same actor, or none.
-fn copy_actor(alloc: Global, actor: &Option<Name>) -> Result<Option<Name>, AllocError>
+pub(crate) fn copy_actor(alloc: Global, actor: &Option<Name>) -> Result<Option<Name>, AllocError>
     ensures { IfOk result (λ copied. copied ≡ actor.now) }
 {
     match actor {
@@ -251,6 +242,7 @@ fn put_begun(
 ) -> Result<Stepped, AllocError>
     ensures put { OnOk result (IsChanged name.now (with_named tasks.old.entries begun.forked.future (record { log = begun.forked.child.log; knows = begun.forked.child.knows; stage = stage_of.Going begun.machine })) tasks.new.entries
         (HasParts begun.forked.parent (stage_of.Going machine))) }
+    ensures fresh { OnOk result (named begun.forked.future tasks.old.entries ≡ None) }
     ensures stepped { IfOk result (λ found. found ≡ stepped_as.Forked begun.told) }
     ensures same { OnErr result (tasks.new.entries ≡ tasks.old.entries) }
 {
@@ -264,7 +256,7 @@ fn put_begun(
         child: parts,
         parent,
     } = forked;
-    match put(tasks, future, begins(parts, child)) {
+    match put_new(tasks, future, begins(parts, child)) {
         Ok(()) => {
             set(tasks, name, parent, Stage::Going(machine));
             Ok(Stepped::Forked(told))
@@ -275,6 +267,19 @@ fn put_begun(
             Err(error)
         }
     }
+}
+
+/// Puts a task whose name is not taken. Where it is, which no run comes to, that is answered as want of memory, and the tasks
+/// stay.
+fn put_new(tasks: &mut BTreeMap<Name, Task>, name: Name, task: Task) -> Result<(), AllocError>
+    ensures fresh { OnOk result (named name tasks.old.entries ≡ None) }
+    ensures put { OnOk result (tasks.new.entries ≡ with_named tasks.old.entries name task) }
+    ensures same { OnErr result (tasks.new.entries ≡ tasks.old.entries) }
+{
+    if find(tasks, &name).is_some() {
+        return Err(AllocError);
+    }
+    put(tasks, name, task)
 }
 
 /// Drops what a task has done and knows.

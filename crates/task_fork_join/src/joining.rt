@@ -4,18 +4,21 @@ ghost use Rattle.std.specs.Option.{option_copied, IsSome};
 ghost use Rattle.eval_step.specs.Evaluation.{IsAsking};
 ghost use Rattle.serial_model.specs.declared.answer.Answer.TheVariants as answer_of;
 ghost use Rattle.task_fork_join.specs.declared.stepped.Stepped.TheVariants as stepped;
+ghost use Rattle.task_fork_join.specs.Attempt.{AreKin, IsKin};
+ghost use Rattle.task_fork_join.specs.Knowledge.{Covers};
 ghost use Rattle.task_fork_join.specs.Joining.{known_in, CamePlain, IsJoin, IsMerged, IsMet, IsMetBy, IsTaken};
 ghost use Rattle.task_fork_join.specs.Stepping.{IsAnswered, IsWaiting};
 ghost use Rattle.value_core.specs.Named.{is_among, named};
 
-use crate::copies::{copy_parts, give, learn};
+use crate::copies::{copy_parts, give};
+use crate::known::Known;
 use crate::task::{Parts, Stage, Task};
 use crate::tasks::{end, go, set, task_of};
 use crate::{Stepped, TaskEnd};
 use eval_step::Machine;
 use serial_model::Answer;
 use std::alloc::{AllocError, Global};
-use std::collections::{BTreeMap, BTreeSet};
+use std::collections::BTreeMap;
 use value_core::name_map::find;
 use value_core::{Name, Value};
 
@@ -47,6 +50,7 @@ pub(crate) fn join(
     outer: Option<&Value>,
 ) -> Result<Stepped, AllocError>
     requires there { IsSome (named name.now tasks.old.entries) }
+    requires kin { AreKin tasks.old.entries }
     requires asking { IsAsking moved }
     ensures join { IfOk result (IsJoin name.now moved future.now (option_copied outer.entry) tasks.old.entries tasks.new.entries) }
     ensures same { OnErr result (tasks.new.entries ≡ tasks.old.entries) }
@@ -63,7 +67,7 @@ pub(crate) fn join(
 /// The task of the future, where it is among those that are known.
 pub(crate) fn known<'a>(
     tasks: &'a BTreeMap<Name, Task>,
-    knows: &BTreeSet<Name>,
+    knows: &Known,
     future: &Name,
 ) -> Option<&'a Task>
     ensures { option_copied result ≡ known_in tasks.now.entries knows.now future.now }
@@ -82,6 +86,7 @@ fn meet(
     task: &Task,
     future: &Name,
 ) -> Result<Met, AllocError>
+    requires { IsKin tasks.now.entries task.now.knows }
     ensures { IfOk result (IsMet tasks.now.entries task.now future.now) }
 {
     match known(tasks, &task.knows, future) {
@@ -92,6 +97,7 @@ fn meet(
 
 /// What the join of a child comes to that the task knows.
 fn meet_child(alloc: Global, task: &Task, child: &Task, future: &Name) -> Result<Met, AllocError>
+    requires { Covers task.now.knows child.now.knows }
     ensures { IfOk result (IsMetBy task.now child.now future.now) }
 {
     match &child.stage {
@@ -111,7 +117,8 @@ fn meet_child(alloc: Global, task: &Task, child: &Task, future: &Name) -> Result
 
 /// What the task has done and knows, once the child is merged.
 fn merge(alloc: Global, task: &Task, child: &Task, future: &Name) -> Result<Parts, AllocError>
-    requires { is_among future.now task.now.log.log.joined ≡ false }
+    requires apart { is_among future.now task.now.log.log.joined ≡ false }
+    requires covers { Covers task.now.knows child.now.knows }
     ensures { IfOk result (IsMerged future.now child.now task.now.log task.now.knows) }
 {
     let mut parts = copy_parts(alloc, task)?;
@@ -126,11 +133,12 @@ pub(crate) fn take_in(
     child: &Task,
     future: &Name,
 ) -> Result<(), AllocError>
-    requires { is_among future.now parts.old.log.log.joined ≡ false }
+    requires apart { is_among future.now parts.old.log.log.joined ≡ false }
+    requires covers { Covers parts.old.knows child.now.knows }
     ensures { OnOk result (IsMerged future.now child.now parts.old.log parts.old.knows parts.new) }
 {
     parts.log.take_in(alloc, future, &child.log)?;
-    learn(alloc, &mut parts.knows, &child.knows)
+    parts.knows.learn_from(&child.knows)
 }
 
 /// The value of a plain task is the answer, where it has one.

@@ -6,6 +6,7 @@ mod closing;
 mod copies;
 mod forking;
 mod joining;
+mod known;
 mod laws;
 mod stepped;
 mod task;

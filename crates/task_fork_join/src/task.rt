@@ -3,11 +3,11 @@ ghost use Rattle.task_fork_join.specs.Stepping.{HasActed};
 ghost use Rattle.txn_snapshot.specs.SnapshotAnswer.{snapshot_of, IsAnswerable};
 
 use crate::TaskEnd;
+use crate::known::Known;
 use eval_step::Machine;
 use ref_store::Store;
 use serial_model::Request;
 use std::alloc::{AllocError, Global};
-use std::collections::BTreeSet;
 use txn_snapshot::{Answered, TaskLog};
 use value_core::Name;
 
@@ -22,7 +22,7 @@ pub(crate) enum Stage {
 #[derive(Drop)]
 pub(crate) struct Task {
     pub(crate) log: TaskLog,
-    pub(crate) knows: BTreeSet<Name>,
+    pub(crate) knows: Known,
     pub(crate) stage: Stage,
 }
 
@@ -75,7 +75,7 @@ impl Task {
 #[derive(Drop)]
 pub(crate) struct Parts {
     pub(crate) log: TaskLog,
-    pub(crate) knows: BTreeSet<Name>,
+    pub(crate) knows: Known,
 }
 
 /// Drops a machine.

@@ -13,20 +13,22 @@ ghost use Rattle.value_core.specs.Named.{named};
 
 use crate::answering::answer;
 use crate::closing::close;
-use crate::forking::{begins, fork, new_log};
+use crate::copies::copy_tasks;
+use crate::forking::{begins, copy_actor, fork, new_log};
 use crate::joining::join;
+use crate::known::Known;
 use crate::task::{Parts, Stage, Task};
 use crate::task_names::TaskNames;
 use crate::tasks::{end, task_of};
 use crate::{Stepped, TaskEnd};
 use core_syntax::NodeId;
 use eval_step::Machine;
-use ref_store::{Store, Writes};
+use ref_store::Store;
 use serial_model::{Halt, Request};
 use std::alloc::{AllocError, Global};
-use std::collections::{BTreeMap, BTreeSet};
+use std::collections::BTreeMap;
 use std::marker::Model;
-use txn_snapshot::{Reads, TaskLog};
+use txn_snapshot::{Reads, TaskLog, View};
 use value_core::name_map::{find, put};
 use value_core::{Code, Name, Place, Value, Values};
 
@@ -89,6 +91,25 @@ impl Tree {
             snapshot,
             fuel,
             escape: TaskEnd::Fault(Code::FutureEscapes, at),
+        })
+    }
+
+    /// An equal attempt.
+    pub fn copy(&self, alloc: Global) -> Result<Tree, AllocError>
+        ensures { IfOk result (λ copied. copied ≡ self.now) }
+    {
+        let root = self.root.copy(alloc)?;
+        let reads = self.reads.copy(alloc)?;
+        let actor = copy_actor(alloc, &self.actor)?;
+        let escape = self.escape.copy(alloc)?;
+        Ok(Tree {
+            root,
+            tasks: copy_tasks(alloc, &self.tasks)?,
+            reads,
+            actor,
+            snapshot: self.snapshot,
+            fuel: self.fuel,
+            escape,
         })
     }
 
@@ -348,8 +369,8 @@ fn root_alone(
 ) -> Result<BTreeMap<Name, Task>, AllocError>
     ensures { IfOk result (λ tasks. IsRootAlone root.now actor.now machine tasks.entries) }
 {
-    let log = new_log(alloc, actor, root, Writes::new(alloc), 0)?;
-    let knows = BTreeSet::new(alloc);
+    let log = new_log(alloc, actor, root, View::new(alloc), 0)?;
+    let knows = Known::new(alloc);
     let name = root.copy(alloc)?;
     one_task(alloc, name, begins(Parts { log, knows }, machine))
 }

@@ -2,17 +2,12 @@
 use Rattle.std.proofs.Common.{◌≡◌, ◌∙◌, ℕ, Bool, true, false, List, [], ◌∷◌, ◌++◌, refl, sym, ap, subst}
 use Rattle.std.specs.Prelude.{◌==◌, ◌&&◌, ◌||◌, map}
 use Rattle.std.proofs.lemmas.Bool.{eqb-true, eqb-false}
-use Rattle.std.specs.BTreeMap.{is_at}
-use Rattle.std.specs.BTreeSet.{BTreeSet}
-use Rattle.std.specs.Prelude.{cond}
-use Rattle.value_core.specs.Name.{after_cmp}
+use Rattle.std.proofs.lemmas.List.Folds.{list_any-append}
 use Rattle.serial_model.specs.declared.effect.Effect.{Effect}
 use Rattle.serial_model.specs.Log.{is_held}
 use Rattle.value_core.specs.Named.{Name, same_name, is_among, made_by}
 use Rattle.value_core.proofs.NamedLaws.{same_name-equal, same_name-itself}
-use Rattle.task_log.specs.Logged.{mark_of, HasEffects}
-use Rattle.value_core.specs.NameSet.{has_name, HasNames}
-use Rattle.value_core.proofs.NameSets.{added_has_names}
+use Rattle.task_log.specs.Logged.{mark_of, HasMarks, HasMembers}
 
 -- what was made with a number is made of one thing and one number
 made-same : (p q : Name) (k l : ℕ) → made_by p k ≡ made_by q l → (p ≡ q) × (k ≡ l)
@@ -49,15 +44,25 @@ held_mark : (effects : List Effect) (effect : Effect) → is_held effects effect
 held_mark [] effect = refl
 held_mark (e ∷ es) effect = ap (λ b. b || is_held es effect) (sym (same_mark e effect)) ∙ ap (λ b. same_name (mark_of effect) (mark_of e) || b) (held_mark es effect)
 
-pub has_held : (set : BTreeSet Name) (effects : List Effect) (effect : Effect) (mark : Name) → HasEffects set effects → mark ≡ mark_of effect → has_name set mark ≡ is_held effects effect
-has_held set effects effect mark has is = ap (has_name set) is ∙ has (mark_of effect) ∙ sym (held_mark effects effect)
+pub has_held : (members : List Name) (effects : List Effect) (effect : Effect) (mark : Name) → HasMarks members effects → mark ≡ mark_of effect → is_among mark members ≡ is_held effects effect
+has_held members effects effect mark has is = ap (λ m. is_among m members) is ∙ has (mark_of effect) ∙ sym (held_mark effects effect)
+
+-- one name more
+pub more_members : (old new names : List Name) (k : Name) → HasMembers old names → ((q : Name) → is_among q new ≡ (is_among q old || same_name q k)) → HasMembers new (names ++ k ∷ [])
+more_members old new names k has added q =
+    added q ∙ ap (λ b. b || same_name q k) (has q) ∙ turned (is_among q names) (same_name q k) ∙ sym (list_any-append (same_name q) names (k ∷ []))
+  where
+    turned : (a b : Bool) → (a || b) ≡ (a || (b || false))
+    turned true b = refl
+    turned false true = refl
+    turned false false = refl
 
 map-append : (effects : List Effect) (effect : Effect) → map mark_of (effects ++ effect ∷ []) ≡ map mark_of effects ++ mark_of effect ∷ []
 map-append [] effect = refl
 map-append (e ∷ es) effect = ap (λ ms. mark_of e ∷ ms) (map-append es effect)
 
 -- one effect more
-pub more_effects : (old new : BTreeSet Name) (effects : List Effect) (effect : Effect) (mark : Name) → HasEffects old effects → mark ≡ mark_of effect
-    → ((q : Name) → has_name new q ≡ cond (is_at (after_cmp mark) q) true (has_name old q)) → HasEffects new (effects ++ effect ∷ [])
-more_effects old new effects effect mark has is added =
-    subst (HasNames new) (ap (λ m. map mark_of effects ++ m ∷ []) is ∙ sym (map-append effects effect)) (added_has_names old new (map mark_of effects) mark has added)
+pub more_marks : (old new : List Name) (effects : List Effect) (effect : Effect) (mark : Name) → HasMarks old effects → mark ≡ mark_of effect
+    → ((q : Name) → is_among q new ≡ (is_among q old || same_name q mark)) → HasMarks new (effects ++ effect ∷ [])
+more_marks old new effects effect mark has is added =
+    subst (HasMembers new) (ap (λ m. map mark_of effects ++ m ∷ []) is ∙ sym (map-append effects effect)) (more_members old new (map mark_of effects) mark has added)

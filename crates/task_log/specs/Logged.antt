@@ -1,15 +1,13 @@
 -- How a task's log is kept.
-use Rattle.std.specs.Prelude.{ℕ, List, map, refl}
+use Rattle.std.specs.Prelude.{◌≡◌, ℕ, List, map, refl}
 use Rattle.std.specs.Coded.{Coded, code_by, coded×, coded_list, coded_ℕ}
-use Rattle.std.specs.BTreeSet.{BTreeSet}
 use Rattle.value_core.specs.contracts.value.Value as value
 use Rattle.value_core.specs.declared.value.Value.{Value}
 use Rattle.serial_model.specs.contracts.effect.Effect as effect
 use Rattle.serial_model.specs.declared.effect.Effect.{Effect}
 use Rattle.serial_model.specs.declared.effect.What.{What}
 use Rattle.serial_model.specs.Log.{Log}
-use Rattle.value_core.specs.Named.{Name, Named, made_by}
-use Rattle.value_core.specs.NameSet.{HasNames}
+use Rattle.value_core.specs.Named.{Name, Named, is_among, made_by}
 
 -- it is stored as its parts
 abbrev pub log_code : Coded Log
@@ -24,9 +22,13 @@ log_code =
 abbrev pub mark_of : Effect → Name
 mark_of effect = made_by effect.task effect.number
 
--- the set has the marks of these effects and no others
-abbrev pub HasEffects : BTreeSet Name → List Effect → Type 0
-HasEffects set effects = HasNames set (map mark_of effects)
+-- the members are the names of the list and no others
+abbrev pub HasMembers : List Name → List Name → Type 0
+HasMembers members names = (name : Name) → is_among name members ≡ is_among name names
+
+-- the members are the marks of these effects and no others
+abbrev pub HasMarks : List Name → List Effect → Type 0
+HasMarks members effects = HasMembers members (map mark_of effects)
 
 -- the effect that the task does next
 abbrev pub next_effect : Log → What → Effect

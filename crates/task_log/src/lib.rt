@@ -2,8 +2,8 @@
 #![tactic(auto)]
 
 pub mod acts;
-mod copies;
 mod log;
+mod shared_list;
 
-pub use copies::copy_names;
 pub use log::TaskLog;
+pub use shared_list::{SharedList, list_effects};

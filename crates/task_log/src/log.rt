@@ -3,35 +3,33 @@ ghost use Rattle.std.specs.Option.{option_copied};
 ghost use Rattle.serial_model.specs.Log.{merged, new_log, with_effect, with_made as made_more, with_write, with_missing, is_held as held_in};
 ghost use Rattle.serial_model.specs.declared.effect.Effect.{Effect as Effecting};
 ghost use Rattle.serial_model.specs.declared.effect.What.TheVariants as what;
-ghost use Rattle.task_log.specs.Logged.{mark_of, next_effect, HasEffects};
+ghost use Rattle.task_log.specs.Logged.{mark_of, next_effect, HasMarks, HasMembers};
 ghost use Rattle.value_core.specs.Named.{is_among, named, over, made_by, with_name, Rises};
 
-use crate::copies::{copy_effects, copy_names, copy_set, copy_writes};
+use crate::SharedList;
+use crate::shared_list::{list_effects, list_names};
 use serial_model::{Effect, What};
+use shared_map::{SharedMap, SharedNames};
 use std::alloc::{AllocError, Global};
-use std::collections::{BTreeMap, BTreeSet};
 use std::marker::Model;
-use value_core::name_map::{find, put};
 use value_core::{Name, Value, Values};
 
-/// What a task of a transaction has done so far.
+/// What a task of a transaction has done so far. Copies share what they hold.
 #[derive(Drop)]
 pub struct TaskLog {
     name: Name,
-    writes: BTreeMap<Name, Value>,
-    joined: Vec<Name>,
-    among_joined: BTreeSet<Name>,
+    writes: SharedMap<Value>,
+    joined: SharedList<Name>,
+    among_joined: SharedNames,
     made: u32,
     own: u32,
-    effects: Vec<Effect>,
-    held: BTreeSet<Name>,
+    effects: SharedList<Effect>,
+    held: SharedNames,
 }
 
 impl Model for TaskLog {
     ghost use Rattle.serial_model.specs.Log.{Log};
-    ghost use Rattle.task_log.specs.Logged.{log_code, HasEffects};
-    ghost use Rattle.value_core.specs.Named.{Rises};
-    ghost use Rattle.value_core.specs.NameSet.{HasNames};
+    ghost use Rattle.task_log.specs.Logged.{log_code, HasMarks, HasMembers};
 
     ghost Value = { Log };
 
@@ -39,14 +37,14 @@ impl Model for TaskLog {
 
     ghost view = { λ l. record {
       name = l.name;
-      writes = l.writes.entries;
-      joined = l.joined.items;
+      writes = l.writes;
+      joined = l.joined;
       made = l.made;
       own = l.own;
-      effects = l.effects.items;
+      effects = l.effects;
     } };
 
-    ghost invariant = { λ l. HasNames l.among_joined l.joined.items × Rises l.writes.entries × HasEffects l.held l.effects.items };
+    ghost invariant = { λ l. HasMembers l.among_joined l.joined × HasMarks l.held l.effects };
 }
 
 impl TaskLog {
@@ -56,29 +54,29 @@ impl TaskLog {
     {
         TaskLog {
             name,
-            writes: BTreeMap::new(alloc),
-            joined: Vec::new(alloc),
-            among_joined: BTreeSet::new(alloc),
+            writes: SharedMap::new(alloc),
+            joined: SharedList::new(alloc),
+            among_joined: SharedNames::new(alloc),
             made: 0,
             own: 0,
-            effects: Vec::new(alloc),
-            held: BTreeSet::new(alloc),
+            effects: SharedList::new(alloc),
+            held: SharedNames::new(alloc),
         }
     }
 
-    /// An equal log.
+    /// An equal log, which shares what this one holds.
     pub fn copy(&self, alloc: Global) -> Result<Self, AllocError>
         ensures { IfOk result (λ copied. copied ≡ self.now) }
     {
         Ok(TaskLog {
             name: self.name.copy(alloc)?,
-            writes: copy_writes(alloc, &self.writes)?,
-            joined: copy_names(alloc, &self.joined)?,
-            among_joined: copy_set(alloc, &self.among_joined)?,
+            writes: self.writes.copy()?,
+            joined: self.joined.copy()?,
+            among_joined: self.among_joined.copy()?,
             made: self.made,
             own: self.own,
-            effects: copy_effects(alloc, &self.effects)?,
-            held: copy_set(alloc, &self.held)?,
+            effects: self.effects.copy()?,
+            held: self.held.copy()?,
         })
     }
 
@@ -117,7 +115,7 @@ impl TaskLog {
         ensures value { option_copied result ≡ named name.now self.now.writes }
         ensures rises { Rises self.now.writes }
     {
-        find(&self.writes, name)
+        self.writes.get(name)
     }
 
     /// Writes the ref. For want of memory the log stays.
@@ -125,7 +123,7 @@ impl TaskLog {
         ensures written { OnOk result (self.new ≡ with_write self.old name value) }
         ensures same { OnErr result (self.new ≡ self.old) }
     {
-        put(&mut self.writes, name, value)
+        self.writes.put(name, value)
     }
 
     /// Adds an effect of the task itself. For want of memory the log stays.
@@ -211,19 +209,15 @@ impl TaskLog {
     ) -> Result<(), AllocError>
         ensures { OnOk result (self.new ≡ merged self.old (record child.now { name = future.now })) }
     {
-        self.take_writes(alloc, child)?;
+        self.take_writes(child)?;
         self.take_joined(alloc, future, child)?;
         self.take_effects(alloc, child)
     }
 
-    fn take_writes(&mut self, alloc: Global, child: &TaskLog) -> Result<(), AllocError>
+    fn take_writes(&mut self, child: &TaskLog) -> Result<(), AllocError>
         ensures { OnOk result (self.new ≡ record self.old { writes = over child.now.writes self.old.writes }) }
     {
-        for (name, value) in &child.writes {
-            let value = value.copy(alloc)?;
-            self.write(name.copy(alloc)?, value)?;
-        }
-        Ok(())
+        self.writes.put_all(&child.writes)
     }
 
     fn take_joined(
@@ -234,48 +228,40 @@ impl TaskLog {
     ) -> Result<(), AllocError>
         ensures { OnOk result (self.new ≡ record self.old { joined = fold with_name (with_name self.old.joined future.now) child.now.joined }) }
     {
-        self.count_joined(alloc, future)?;
-        for name in &child.joined {
+        self.count_joined(alloc, future.copy(alloc)?)?;
+        for name in list_names(alloc, &child.joined)? {
             self.count_joined(alloc, name)?;
         }
         Ok(())
     }
 
-    fn count_joined(&mut self, alloc: Global, name: &Name) -> Result<(), AllocError>
-        ensures { OnOk result (self.new ≡ record self.old { joined = with_name self.old.joined name.now }) }
+    fn count_joined(&mut self, alloc: Global, name: Name) -> Result<(), AllocError>
+        ensures { OnOk result (self.new ≡ record self.old { joined = with_name self.old.joined name }) }
     {
-        if self.has_joined(name) {
+        if self.has_joined(&name) {
             return Ok(());
         }
-        let name = name.copy(alloc)?;
-        let known = name.copy(alloc)?;
-        self.joined.reserve(1)?;
-        match self.among_joined.insert(known) {
-            Ok(_) => {
-                self.joined.push_reserved(name);
-                Ok(())
-            }
-            Err(_) => Err(AllocError),
-        }
+        let member = name.copy(alloc)?;
+        append_name(&mut self.joined, &mut self.among_joined, member, name)
     }
 
     fn take_effects(&mut self, alloc: Global, child: &TaskLog) -> Result<(), AllocError>
         ensures { OnOk result (self.new ≡ record self.old { effects = fold with_missing self.old.effects child.now.effects }) }
     {
-        for effect in &child.effects {
+        for effect in list_effects(alloc, &child.effects)? {
             self.take_effect(alloc, effect)?;
         }
         Ok(())
     }
 
-    fn take_effect(&mut self, alloc: Global, effect: &Effect) -> Result<(), AllocError>
-        ensures { OnOk result (self.new ≡ record self.old { effects = with_missing self.old.effects effect.now }) }
+    fn take_effect(&mut self, alloc: Global, effect: Effect) -> Result<(), AllocError>
+        ensures { OnOk result (self.new ≡ record self.old { effects = with_missing self.old.effects effect }) }
     {
         let mark = effect.task.child(alloc, effect.number)?;
         if self.holds(&mark) {
             return Ok(());
         }
-        self.append(mark, effect.copy(alloc)?)
+        self.append(mark, effect)
     }
 
     /// Whether an effect with that mark is there.
@@ -285,25 +271,18 @@ impl TaskLog {
         self.held.contains(mark)
     }
 
-    /// The refs that the task wrote, and those that it joined, with their values.
-    pub fn writes(&self) -> &BTreeMap<Name, Value>
-        ensures { result.now.entries ≡ self.now.writes }
+    /// The refs that the task wrote, and those that it joined, with their values. It takes no memory.
+    pub fn writes(&self) -> &SharedMap<Value>
+        ensures { result.now ≡ self.now.writes }
     {
         &self.writes
     }
 
-    /// The effects in their order.
-    pub fn effects(&self) -> &[Effect]
+    /// The effects in their order. It takes no memory.
+    pub fn effects(&self) -> &SharedList<Effect>
         ensures { result.now ≡ self.now.effects }
     {
-        self.effects.as_slice()
-    }
-
-    /// The effects in their order; the log is given up for them.
-    pub fn into_effects(self) -> Vec<Effect>
-        ensures { result.items ≡ self.effects }
-    {
-        self.effects
+        &self.effects
     }
 }
 
@@ -317,23 +296,40 @@ fn effect_of(alloc: Global, task: &Name, number: u32, what: What) -> Result<Effe
 
 /// Appends an effect with its mark. For want of memory the effects stay.
 fn append(
-    effects: &mut Vec<Effect>,
-    held: &mut BTreeSet<Name>,
+    effects: &mut SharedList<Effect>,
+    held: &mut SharedNames,
     mark: Name,
     effect: Effect,
 ) -> Result<(), AllocError>
     requires mark { mark ≡ mark_of effect }
-    requires held { HasEffects held.old effects.old.items }
-    ensures appended { OnOk result (effects.new.items ≡ effects.old.items ++ effect ∷ []) }
-    ensures same { OnErr result (effects.new.items ≡ effects.old.items) }
-    ensures held { HasEffects held.new effects.new.items }
+    requires held { HasMarks held.old effects.old }
+    ensures appended { OnOk result (effects.new ≡ effects.old ++ effect ∷ []) }
+    ensures same { OnErr result (effects.new ≡ effects.old) }
+    ensures held { HasMarks held.new effects.new }
 {
-    effects.reserve(1)?;
-    match held.insert(mark) {
-        Ok(_) => {
-            effects.push_reserved(effect);
-            Ok(())
-        }
-        Err(_) => Err(AllocError),
-    }
+    let mut more = held.copy()?;
+    more.add(mark)?;
+    effects.push(effect)?;
+    *held = more;
+    Ok(())
+}
+
+/// Appends a name, which becomes a member. For want of memory the names stay.
+fn append_name(
+    names: &mut SharedList<Name>,
+    members: &mut SharedNames,
+    member: Name,
+    name: Name,
+) -> Result<(), AllocError>
+    requires member { member ≡ name }
+    requires members { HasMembers members.old names.old }
+    ensures appended { OnOk result (names.new ≡ names.old ++ name ∷ []) }
+    ensures same { OnErr result (names.new ≡ names.old) }
+    ensures members { HasMembers members.new names.new }
+{
+    let mut more = members.copy()?;
+    more.add(member)?;
+    names.push(name)?;
+    *members = more;
+    Ok(())
 }

@@ -6,14 +6,14 @@ ghost use Rattle.serial_model.specs.Trace.{IsEnd, IsEntry, IsTrace, end_text, en
 use itoa::Buffer;
 use serial_model::{End, Entry, Limits, Trace};
 use std::alloc::{AllocError, Global};
-use value_core::{Code, Name, Place, Seq, Text};
+use value_core::{Code, Name, Place, Text};
 
 /// The text of the trace.
 pub fn write_trace(alloc: Global, trace: &Trace) -> Result<Text, AllocError>
     ensures text { IfOk result (λ text. text ≡ trace_text trace.now) }
     ensures is_trace { OnOk result (IsTrace trace.now) }
 {
-    let mut text = Seq::new(alloc);
+    let mut text = Text::new(alloc);
     push_line(&mut text, &[b"chocola-trace 1"])?;
     push_limits(&mut text, trace.limits)?;
     for entry in trace.history.entries() {

@@ -1,7 +1,10 @@
 -- What a world has printed is what its history prints.
 use Rattle.std.proofs.Common.{◌≡◌, ◌∙◌, ℕ, List, length, refl, sym, ap}
-use Rattle.std.specs.Prelude.{Some, drop}
-use Rattle.interleave_core.specs.Grown.{history_seen, setup_seen}
+use Rattle.std.specs.Prelude.{IsSome, drop}
+use Rattle.core_syntax.specs.Table.{Table}
+use Rattle.interleave_core.specs.Grown.{history_seen, setup_of, setup_seen}
+use Rattle.serial_model.specs.declared.entry.Entry.{Entry}
+use Rattle.serial_model.specs.Limits.{Budget}
 use Rattle.serial_model.specs.Replay.{replay}
 use Rattle.shared_world.specs.Shared.{Shared}
 use Rattle.shared_world.specs.Stands.{Stands}
@@ -26,3 +29,7 @@ behind s st written rest is = record {
 -- a world that stays, as the lock sees it
 pub stays : (s : Shared) → IsLater setup_seen history_seen s s
 stays s = record { same_setup = refl; grown = prefix_self s.history }
+
+-- what was seen where bytes were printed replays
+pub replayed : (setup : Table × Budget) (seen : List Entry) (total : ℕ) → IsPrinted setup seen total → IsSome (replay (setup_of setup) seen)
+replayed setup seen total is = rw is.replays refl

@@ -1,5 +1,5 @@
 -- What was written stays the first bytes of what was seen.
-use Rattle.std.proofs.Common.{◌≡◌, ◌∙◌, ◌+◌, ◌≤◌, ℕ, List, ◌++◌, length, length-append, take, take_all, drop, le_refl, refl, sym, ap, subst, arith}
+use Rattle.std.proofs.Common.{◌≡◌, ◌∙◌, ◌+◌, ℕ, List, length, length-append, take, take_all, le_refl, sym, ap, subst, arith}
 use Rattle.std.proofs.lemmas.List.{length-drop, take-append-le}
 use Rattle.std.specs.Io.KnownBytes.{append_known}
 use Rattle.std.specs.Prelude.{Option, Some, Result, Ok, Err, OnOk}

@@ -35,7 +35,7 @@ pub(crate) fn bytes_behind<R: Wait>(
     let world = turn.value();
     world.stands();
     let total = world.output().len();
-    let bytes = rest_of(alloc, world.output(), written);
+    let bytes = Vec::from_slice(alloc, bytes_from(world.output(), written));
     Behind {
         seat: lock.leave(turn),
         total,
@@ -44,11 +44,11 @@ pub(crate) fn bytes_behind<R: Wait>(
 }
 
 /// The bytes behind the first so many.
-fn rest_of(alloc: Global, bytes: &[u8], from: u64) -> Result<Vec<u8>, AllocError>
-    ensures { IfOk result (λ v. v.items ≡ drop from bytes.now) }
+pub(crate) fn bytes_from(bytes: &[u8], from: u64) -> &[u8]
+    ensures { result.now ≡ drop from bytes.now }
 {
     match bytes.get(from as usize..) {
-        Some(rest) => Vec::from_slice(alloc, rest),
-        None => Ok(Vec::new(alloc)),
+        Some(rest) => rest,
+        None => &[],
     }
 }

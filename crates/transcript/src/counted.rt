@@ -17,6 +17,7 @@ pub(crate) fn write_counted<K: Sink>(bytes: &[u8], sink: &mut K) -> Counted
     ensures taken { (K.seen sink.new).taken ≡ append_known (K.seen sink.old).taken (take result.count bytes.now) }
     ensures whole { OnOk result.outcome (result.count ≡ length bytes.now) }
     ensures counts { CountsWrite result.outcome (K.seen sink.old).faults (K.seen sink.new).faults }
+    ensures later { (K.seen sink.old).faults ≤ (K.seen sink.new).faults }
 {
     let mut at = 0;
     while at < bytes.len() {

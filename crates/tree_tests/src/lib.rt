@@ -1,4 +1,4 @@
-//! Tests of the tasks of an attempt, and of what a program uses.
+//! Tests of the tasks of an attempt.
 #![tactic(auto)]
 
 #[cfg(test)]

@@ -1,9 +1,7 @@
 ghost use Rattle.std.specs.Prelude.{◌≡◌, [], ◌∷◌, IfOk};
 
 use core_syntax::{BuildNo, Builder, Node, NodeId, NodeIds, Program};
-use program_coverage::is_without_actors;
 use std::alloc::{AllocError, Global};
-use std::test::Fail;
 use value_core::{Place, Seq};
 
 /// (println 1)
@@ -37,22 +35,4 @@ pub(crate) fn sample(alloc: Global) -> Result<Program, BuildNo> {
     builder.push(Node::Join(fork), at)?;
     builder.push(Node::Do(two(alloc, fork, number)?), at)?;
     Ok(builder.finish(Seq::new(alloc), Seq::new(alloc), 0, Seq::new(alloc))?)
-}
-
-// A send of a number to a number.
-fn sender(alloc: Global) -> Result<Program, BuildNo> {
-    let at = Place::new(1, 1);
-    let mut builder = Builder::new(alloc);
-    let number = builder.push(Node::Int(1), at)?;
-    builder.push(Node::Send(number, one(alloc, number)?), at)?;
-    Ok(builder.finish(Seq::new(alloc), Seq::new(alloc), 0, Seq::new(alloc))?)
-}
-
-#[test]
-fn a_program_with_a_send_is_not_without_actors(rt: HostRuntime) -> Result<(), Fail> {
-    let without = sample(rt.alloc())?;
-    let with = sender(rt.alloc())?;
-    assert!(rt; is_without_actors(&without));
-    assert!(rt; !is_without_actors(&with));
-    Ok(())
 }

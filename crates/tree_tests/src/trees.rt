@@ -11,6 +11,7 @@ use serial_model::{Answer, Effect, Halt, What};
 use std::alloc::{AllocError, Global};
 use std::test::Fail;
 use task_fork_join::{Stepped, TaskEnd, Tree};
+use task_log::list_effects;
 use value_core::{Name, Place, Value, Values};
 
 /// A machine that was moved to that halt.
@@ -204,11 +205,12 @@ fn is_childs_print(effect: &Effect) -> bool {
 }
 
 /// Whether what the root has done is what its child did.
-fn has_the_childs_print(tree: &Tree) -> bool {
-    match tree.root().effects() {
+fn has_the_childs_print(tree: &Tree, alloc: Global) -> Result<bool, AllocError> {
+    let effects = list_effects(alloc, tree.root().effects())?;
+    Ok(match effects.as_slice() {
         [only] => is_childs_print(only),
         _ => false,
-    }
+    })
 }
 
 fn joins_its_child(tree: &mut Tree, alloc: Global, program: &Program) -> Result<bool, AllocError> {
@@ -217,7 +219,7 @@ fn joins_its_child(tree: &mut Tree, alloc: Global, program: &Program) -> Result<
     let child = child_goes(tree, alloc, program)?;
     let joined = root_joins(tree, alloc, program)?;
     let is_nil = matches!(tree.outcome(), Some(TaskEnd::Value(Value::Nil)));
-    Ok(begun && waits && child && joined && is_nil && has_the_childs_print(tree))
+    Ok(begun && waits && child && joined && is_nil && has_the_childs_print(tree, alloc)?)
 }
 
 fn closes_with_its_child(
@@ -230,7 +232,7 @@ fn closes_with_its_child(
     let child = child_goes(tree, alloc, program)?;
     let closed = root_closes(tree, alloc, program)?;
     let is_one = matches!(tree.outcome(), Some(TaskEnd::Value(Value::Int(1))));
-    Ok(begun && waits && child && closed && is_one && has_the_childs_print(tree))
+    Ok(begun && waits && child && closed && is_one && has_the_childs_print(tree, alloc)?)
 }
 
 // The value of the root is its child's future, which may not go out.
@@ -252,6 +254,14 @@ fn a_root_joins(alloc: Global, program: &Program) -> Result<bool, AllocError> {
     joins_its_child(&mut tree, alloc, program)
 }
 
+// A copy goes on to its end, and the attempt that was copied stays.
+fn a_copy_goes_on(alloc: Global, program: &Program) -> Result<bool, AllocError> {
+    let tree = root_alone(alloc, program, JOINED)?;
+    let mut copied = tree.copy(alloc)?;
+    let joined = joins_its_child(&mut copied, alloc, program)?;
+    Ok(joined && tree.outcome().is_none())
+}
+
 fn a_root_closes(alloc: Global, program: &Program) -> Result<bool, AllocError> {
     let mut tree = root_alone(alloc, program, BOTH)?;
     closes_with_its_child(&mut tree, alloc, program)
@@ -266,6 +276,13 @@ fn a_future_escapes(alloc: Global, program: &Program) -> Result<bool, AllocError
 fn a_root_waits_for_its_child_and_joins_it(rt: HostRuntime) -> Result<(), Fail> {
     let program = sample(rt.alloc())?;
     assert!(rt; a_root_joins(rt.alloc(), &program)?);
+    Ok(())
+}
+
+#[test]
+fn a_copy_of_an_attempt_goes_on_alone(rt: HostRuntime) -> Result<(), Fail> {
+    let program = sample(rt.alloc())?;
+    assert!(rt; a_copy_goes_on(rt.alloc(), &program)?);
     Ok(())
 }
 

@@ -1,3 +1,4 @@
+pub mod Layers
 pub mod ReadLaws
 pub mod ReadsAgree
 pub mod Replies

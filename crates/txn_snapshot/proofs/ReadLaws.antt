@@ -6,6 +6,8 @@ use Rattle.std.specs.declared.cmp.Ordering.TheVariants.{Less, Equal, Greater}
 use Rattle.std.specs.FinMap.Entries.{by_order}
 use Rattle.std.specs.List.{insert}
 use Rattle.std.specs.List.Sorted.{IsSearchInRange, IsBinarySearchResult}
+use Rattle.shared_map.proofs.NameLaws.{among-with_member, marked-with_member, names-marked}
+use Rattle.shared_map.specs.Names.{names_of}
 use Rattle.ref_store.specs.Writes.{IsAfterFirst, IsGapFor, IsPlaceOf}
 use Rattle.ref_store.proofs.WriteLaws.{put_gap, searched}
 use Rattle.txn_snapshot.specs.Reads.{marked, with_read, ReadsRise}
@@ -14,23 +16,6 @@ use Rattle.value_core.specs.Named.{Name, Named, is_among, named, same_name, with
 use Rattle.value_core.proofs.NamedLaws.{named-with_named, rises-with_named, same_name-itself}
 
 -- ---- as a map by name
-pub marked-with_read : (ns : List Name) (k : Name) → marked (with_read ns k) ≡ with_named (marked ns) k tt
-marked-with_read [] k = refl
-marked-with_read (n ∷ ns) k = on (after_cmp k n) (marked-with_read ns k)
-  where
-    on : (o : Ordering) → marked (with_read ns k) ≡ with_named (marked ns) k tt
-        → marked (by_order o (k ∷ n ∷ ns) (n ∷ ns) (n ∷ with_read ns k)) ≡ by_order o ((k, tt) ∷ (n, tt) ∷ marked ns) ((n, tt) ∷ marked ns) ((n, tt) ∷ with_named (marked ns) k tt)
-    on Less rest = refl
-    on Equal rest = refl
-    on Greater rest = ap (λ (l : Named (Unit {0})). (n, tt) ∷ l) rest
-
-pub rises-with_read : (ns : List Name) (k : Name) → ReadsRise ns → ReadsRise (with_read ns k)
-rises-with_read ns k rises = subst (λ (l : Named (Unit {0})). Rises l) (sym (marked-with_read ns k)) (rises-with_named k tt (marked ns) rises)
-
-names-marked : (ns : List Name) → map (λ (e : Name × Unit {0}). e.0) (marked ns) ≡ ns
-names-marked [] = refl
-names-marked (n ∷ ns) = ap (λ l. n ∷ l) (names-marked ns)
-
 pub length-marked : (ns : List Name) → length (marked ns) ≡ length ns
 length-marked [] = refl
 length-marked (n ∷ ns) = ap suc (length-marked ns)
@@ -41,24 +26,8 @@ name_at (n ∷ ns) zero d = refl
 name_at (n ∷ ns) (suc i) d = name_at ns i d
 
 -- ---- which names are there
-there-marked : (q : Name) (ns : List Name) → is_some (named q (marked ns)) ≡ is_among q ns
-there-marked q [] = refl
-there-marked q (n ∷ ns) = on (same_name q n) (there-marked q ns)
-  where
-    on : (b : Bool) → is_some (named q (marked ns)) ≡ is_among q ns → is_some (cond b (Some tt) (named q (marked ns))) ≡ (b || is_among q ns)
-    on true rest = refl
-    on false rest = rest
-
-pub among-with_read : (q : Name) (ns : List Name) (k : Name) → is_among q (with_read ns k) ≡ (same_name q k || is_among q ns)
-among-with_read q ns k =
-    sym (there-marked q (with_read ns k)) ∙ ap (λ (l : Named (Unit {0})). is_some (named q l)) (marked-with_read ns k) ∙ ap is_some (named-with_named q k tt (marked ns)) ∙ on (same_name q k)
-  where
-    on : (b : Bool) → is_some (cond b (Some tt) (named q (marked ns))) ≡ (b || is_among q ns)
-    on true = refl
-    on false = there-marked q ns
-
 pub among-itself : (ns : List Name) (k : Name) → is_among k (with_read ns k) ≡ true
-among-itself ns k = among-with_read k ns k ∙ ap (λ b. b || is_among k ns) (same_name-itself k)
+among-itself ns k = among-with_member k ns k ∙ ap (λ b. b || is_among k ns) (same_name-itself k)
 
 -- ---- a binary search
 pub searched_names : (ns : List Name) → ReadsRise ns → (k : Name) (r : Result ℕ ℕ) → IsSearchInRange r (length ns) → IsBinarySearchResult (λ (n : Name). after_cmp n k) ns r
@@ -83,11 +52,11 @@ stays (n ∷ ns) k (suc i) d lt after e =
 pub read_stays : (ns : List Name) (k : Name) (i : ℕ) → IsPlaceOf (marked ns) k i → with_read ns k ≡ ns
 read_stays ns k i at = stays ns k i (k, tt) at.in_range at.after (at.here (k, tt))
 
-insert-marked : (ns : List Name) (k : Name) (i : ℕ) → map (λ (e : Name × Unit {0}). e.0) (insert (marked ns) i (k, tt)) ≡ insert ns i k
+insert-marked : (ns : List Name) (k : Name) (i : ℕ) → names_of (insert (marked ns) i (k, tt)) ≡ insert ns i k
 insert-marked ns k zero = ap (λ l. k ∷ l) (names-marked ns)
 insert-marked [] k (suc i) = refl
 insert-marked (n ∷ ns) k (suc i) = ap (λ l. n ∷ l) (insert-marked ns k i)
 
 pub read_gap : (ns : List Name) (k : Name) (i : ℕ) → IsGapFor (marked ns) k i → with_read ns k ≡ insert ns i k
 read_gap ns k i gap =
-    sym (names-marked (with_read ns k)) ∙ ap (map (λ (e : Name × Unit {0}). e.0)) (marked-with_read ns k ∙ put_gap (marked ns) k tt i gap) ∙ insert-marked ns k i
+    sym (names-marked (with_read ns k)) ∙ ap names_of (marked-with_member ns k ∙ put_gap (marked ns) k tt i gap) ∙ insert-marked ns k i

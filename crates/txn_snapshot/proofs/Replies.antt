@@ -12,7 +12,7 @@ use Rattle.txn_snapshot.specs.declared.answered.Answered.{Answered}
 use Rattle.txn_snapshot.specs.Reads.{with_read}
 use Rattle.txn_snapshot.specs.SnapshotAnswer.{Reply, acts, reads_ref, replies, sets_ref}
 use Rattle.txn_snapshot.specs.SnapshotTask.{SnapshotTask, private, with_log, AreAmong, Stays}
-use Rattle.txn_snapshot.proofs.ReadLaws.{among-with_read}
+use Rattle.shared_map.proofs.NameLaws.{among-with_member}
 use Rattle.value_core.specs.declared.value.Value.{Value as Datum}
 use Rattle.value_core.specs.Named.{Name, made_by, same_name}
 
@@ -54,7 +54,7 @@ itself : (task : SnapshotTask) → Stays task task
 itself task = logged_stays task task.log (record { name = refl; joined = refl; made = omega arith })
 
 still_read : (reads : List Name) (k : Name) → AreAmong reads (with_read reads k)
-still_read reads k ref there = among-with_read ref reads k ∙ ap (λ b. same_name ref k || b) there ∙ or_true (same_name ref k)
+still_read reads k ref there = among-with_member ref reads k ∙ ap (λ b. same_name ref k || b) there ∙ or_true (same_name ref k)
   where
     or_true : (b : Bool) → (b || true) ≡ true
     or_true true = refl

@@ -1,9 +1,9 @@
 -- The refs that a task has read from the store.
-use Rattle.std.specs.Prelude.{List, [], ◌∷◌}
+use Rattle.std.specs.Prelude.{List}
 use Rattle.std.specs.Coded.{Coded, coded_list, coded_ℕ}
-use Rattle.std.specs.FinMap.Entries.{by_order}
-use Rattle.value_core.specs.Name.{after_cmp}
-use Rattle.value_core.specs.Named.{Name, Named, Rises}
+use Rattle.shared_map.specs.Names.{MembersRise, with_member}
+use Rattle.shared_map.specs.Names as names
+use Rattle.value_core.specs.Named.{Name, Named}
 use Rattle.value_core.specs.Roomy.{Roomy, roomy_code}
 
 -- reads are stored as names
@@ -12,14 +12,12 @@ reads_code = roomy_code (coded_list coded_ℕ)
 
 -- the names, with this one in its place where it is none of them
 abbrev pub with_read : List Name → Name → List Name
-with_read [] name = name ∷ []
-with_read (read ∷ reads) name = by_order (after_cmp name read) (name ∷ read ∷ reads) (read ∷ reads) (read ∷ with_read reads name)
+with_read reads name = with_member reads name
 
 -- the names as a map by name that has nothing under them
 abbrev pub marked : List Name → Named (Unit {0})
-marked [] = []
-marked (read ∷ reads) = (read, tt) ∷ marked reads
+marked reads = names.marked reads
 
 -- the names rise
 abbrev pub ReadsRise : List Name → Type 0
-ReadsRise reads = Rises (marked reads)
+ReadsRise reads = MembersRise reads

@@ -1,9 +1,9 @@
-use ref_store::Writes;
+use crate::View;
 use value_core::Name;
 
-/// What a fork gives: the future, and the values that the child sees before the store, in after-order.
+/// What a fork gives: the future, and the values that the child sees before the store.
 #[derive(Drop)]
 pub struct ForkView {
     pub future: Name,
-    pub view: Writes,
+    pub view: View,
 }

@@ -6,10 +6,11 @@ mod fork_view;
 mod laws;
 mod log;
 mod reads;
-mod views;
+mod view;
 
 pub use answered::Answered;
 pub use fork_view::ForkView;
 pub use laws::{answers_keep_runs, answers_rest_on_reads, derefs_rest_on_reads};
 pub use log::TaskLog;
 pub use reads::Reads;
+pub use view::View;

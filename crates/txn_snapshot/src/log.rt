@@ -6,25 +6,25 @@ ghost use Rattle.txn_snapshot.specs.SnapshotAnswer.{answer_of, reads_ref, replie
 ghost use Rattle.txn_snapshot.specs.SnapshotTask.{having_forked, having_merged, new_task, private, Stays};
 ghost use Rattle.value_core.specs.Named.{is_among, made_by, over};
 
-use crate::views::{copy_view, view_over};
-use crate::{Answered, ForkView, Reads};
-use ref_store::{Store, Writes};
+use crate::{Answered, ForkView, View};
+use ref_store::Store;
 use serial_model::{Answer, Effect, Request};
+use shared_map::{SharedMap, SharedNames};
 use std::alloc::{AllocError, Global};
-use std::collections::BTreeMap;
 use std::marker::Model;
-use task_log::TaskLog as OwnLog;
 use task_log::acts::{new_ref, print, send, set_ref, spawn, turn_into};
+use task_log::{SharedList, TaskLog as OwnLog};
 use value_core::{Code, Name, Value};
 
-/// What a task of a transaction has done so far on a snapshot of the refs, and which refs it has read there.
+/// What a task of a transaction has done so far on a snapshot of the refs, and which refs it has read there. Copies share what
+/// they hold.
 #[derive(Drop)]
 pub struct TaskLog {
     log: OwnLog,
-    base: Writes,
+    base: View,
     depth: u32,
     actor: Option<Name>,
-    reads: Reads,
+    reads: SharedNames,
 }
 
 impl Model for TaskLog {
@@ -34,35 +34,35 @@ impl Model for TaskLog {
 
     ghost coded = { snapshot_task_code };
 
-    ghost view = { λ t. record { log = t.log; base = t.base.items; depth = t.depth; actor = t.actor; reads = t.reads.items } };
+    ghost view = { λ t. record { log = t.log; base = t.base; depth = t.depth; actor = t.actor; reads = t.reads } };
 }
 
 impl TaskLog {
     /// The log of a task that has done nothing: of that name, with the view that it was forked with, so many forks below the
     /// root, in a turn of that actor or in none. It takes no memory.
-    pub fn new(alloc: Global, name: Name, view: Writes, depth: u32, actor: Option<Name>) -> Self
-        ensures { result ≡ new_task name view.items depth actor }
+    pub fn new(alloc: Global, name: Name, view: View, depth: u32, actor: Option<Name>) -> Self
+        ensures { result ≡ new_task name view depth actor }
     {
         TaskLog {
             log: OwnLog::new(alloc, name),
             base: view,
             depth,
             actor,
-            reads: Reads::new(alloc),
+            reads: SharedNames::new(alloc),
         }
     }
 
-    /// An equal log.
+    /// An equal log, which shares what this one holds.
     pub fn copy(&self, alloc: Global) -> Result<Self, AllocError>
         ensures { IfOk result (λ copied. copied ≡ self.now) }
     {
         let actor = copy_actor(alloc, &self.actor)?;
         Ok(TaskLog {
             log: self.log.copy(alloc)?,
-            base: copy_view(alloc, &self.base)?,
+            base: self.base.copy()?,
             depth: self.depth,
             actor,
-            reads: self.reads.copy(alloc)?,
+            reads: self.reads.copy()?,
         })
     }
 
@@ -110,7 +110,7 @@ impl TaskLog {
         match stored {
             Some(value) => {
                 let given = value.copy(alloc)?;
-                self.reads.put(name.copy(alloc)?)?;
+                self.reads.add(name.copy(alloc)?)?;
                 Ok(Answered::Now(Answer::Value(given)))
             }
             None => Ok(Answered::NotInSnapshot(name.copy(alloc)?)),
@@ -207,12 +207,12 @@ impl TaskLog {
     /// own view. For want of memory, as at 4,294,967,295 things, the log stays.
     pub fn fork(&mut self, alloc: Global) -> Result<ForkView, AllocError>
         ensures future { IfOk result (λ forked. forked.future ≡ made_by self.old.log.name self.old.log.made) }
-        ensures view { IfOk result (λ forked. forked.view.items ≡ over self.old.log.writes self.old.base) }
+        ensures view { IfOk result (λ forked. forked.view ≡ over self.old.log.writes self.old.base) }
         ensures made { OnOk result (self.new ≡ having_forked self.old) }
         ensures same { OnErr result (self.new ≡ self.old) }
     {
         let future = self.log.next_made(alloc)?;
-        let view = view_over(alloc, self.log.writes(), &self.base)?;
+        let view = self.base.under(self.log.writes())?;
         self.log.count_made()?;
         Ok(ForkView { future, view })
     }
@@ -227,8 +227,10 @@ impl TaskLog {
     {
         let mut both = self.log.copy(alloc)?;
         both.merge_as(alloc, future, &child.log)?;
-        self.reads = self.reads.union(alloc, &child.reads)?;
+        let mut reads = self.reads.copy()?;
+        reads.add_all(&child.reads)?;
         self.log = both;
+        self.reads = reads;
         Ok(())
     }
 
@@ -243,7 +245,7 @@ impl TaskLog {
         ensures { OnOk result (self.new ≡ having_merged self.old future.now child.now) }
     {
         self.log.merge_as(alloc, future, &child.log)?;
-        self.reads.add_all(alloc, &child.reads)
+        self.reads.add_all(&child.reads)
     }
 
     /// Whether the task has joined the future. It takes no memory.
@@ -275,22 +277,22 @@ impl TaskLog {
     }
 
     /// The effects of the task, and those that came by joins, in order. It takes no memory.
-    pub fn effects(&self) -> &[Effect]
+    pub fn effects(&self) -> &SharedList<Effect>
         ensures { result.now ≡ self.now.log.effects }
     {
         self.log.effects()
     }
 
     /// The refs that the task wrote, and those that came by joins, with their values. It takes no memory.
-    pub fn writes(&self) -> &BTreeMap<Name, Value>
-        ensures { result.now.entries ≡ self.now.log.writes }
+    pub fn writes(&self) -> &SharedMap<Value>
+        ensures { result.now ≡ self.now.log.writes }
     {
         self.log.writes()
     }
 
     /// The refs that the task read from the store, and those that came by joins, in after-order. It takes no memory.
-    pub fn reads(&self) -> &Reads
-        ensures { result.now.items ≡ self.now.reads }
+    pub fn reads(&self) -> &SharedNames
+        ensures { result.now ≡ self.now.reads }
     {
         &self.reads
     }

@@ -1,10 +1,10 @@
-ghost use Rattle.std.specs.Prelude.{◌≡◌, ◌+◌, ◌<◌, ◌≤◌, [], IfErr, IfOk, IsOk, OnErr, OnOk, fold};
+ghost use Rattle.std.specs.Prelude.{◌≡◌, ◌+◌, ◌<◌, ◌≤◌, [], IfErr, IfOk, IsOk, OnErr, OnOk};
 ghost use Rattle.ref_store.specs.Writes.{IsGapFor, IsPlaceOf};
 ghost use Rattle.txn_snapshot.specs.Reads.{marked, with_read, ReadsRise};
 
+use shared_map::SharedNames;
 use std::alloc::{AllocError, Global};
 use std::marker::Model;
-use task_log::copy_names;
 use value_core::Name;
 
 /// The refs that a task has read from the store, in after-order.
@@ -70,23 +70,13 @@ impl Reads {
         }
     }
 
-    /// The refs of both.
-    pub fn union(&self, alloc: Global, other: &Reads) -> Result<Self, AllocError>
-        ensures { IfOk result (λ both. both.items ≡ fold with_read self.now.items other.now.items) }
+    /// These names, listed.
+    pub fn of(names: &SharedNames) -> Result<Self, AllocError>
+        ensures { IfOk result (λ reads. reads.items ≡ names.now) }
     {
-        let mut both = self.copy(alloc)?;
-        both.add_all(alloc, other)?;
-        Ok(both)
-    }
-
-    /// Adds the refs of the other reads. For want of memory some of them may be there.
-    pub(crate) fn add_all(&mut self, alloc: Global, other: &Reads) -> Result<(), AllocError>
-        ensures { OnOk result (self.new.items ≡ fold with_read self.old.items other.now.items) }
-    {
-        for name in other.items() {
-            self.put(name.copy(alloc)?)?;
-        }
-        Ok(())
+        Ok(Reads {
+            items: names.list()?,
+        })
     }
 
     /// The same refs.
@@ -105,4 +95,15 @@ impl Reads {
     {
         self.items.binary_search_by(|read| read.cmp_after(name))
     }
+}
+
+/// Equal names, in the same order.
+fn copy_names(alloc: Global, names: &[Name]) -> Result<Vec<Name>, AllocError>
+    ensures { IfOk result (λ copied. copied.items ≡ names.now) }
+{
+    let mut copied = Vec::with_capacity(alloc, names.len())?;
+    for name in names {
+        copied.push(name.copy(alloc)?)?;
+    }
+    Ok(copied)
 }

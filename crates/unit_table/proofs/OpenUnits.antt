@@ -4,9 +4,9 @@ use Rattle.std.specs.Option.{IfSome, option_and_then, option_map}
 use Rattle.std.proofs.lemmas.Bool.{cases_eq}
 use Rattle.std.proofs.lemmas.List.{get_or-set_other, get_or-set_same}
 use Rattle.slot_set.specs.SlotSet.{has_slot}
-use Rattle.unit_table.specs.Board.{Board, HasPlace, IsMarked, IsPutAt, SamePieces, is_unfinished, name_in, piece_at}
+use Rattle.unit_table.specs.Board.{Board, HasPlace, IsMarked, IsPutAt, SamePieces, is_unfinished, name_in, piece_at, unit_at}
 use Rattle.unit_table.specs.Keeping.{AreUnfinished, HasSlot, IsKept, IsUnfinishedNoted, KeepsSlots, SameSlots, slot_at, ticket_at}
-use Rattle.unit_table.specs.Piece.{awaited, beside, goes_on, is_for, mark_in, says_finished, with_mark, woken}
+use Rattle.unit_table.specs.Piece.{awaited, beside, goes_on, is_for, mark_in, says_finished, unit_in, with_mark, woken}
 use Rattle.unit_table.specs.declared.mark.Mark.{Mark}
 use Rattle.unit_table.specs.declared.mark.Mark.TheVariants as mark
 use Rattle.unit_table.specs.declared.mark.Work.TheVariants as work
@@ -15,6 +15,7 @@ use Rattle.unit_table.specs.declared.piece.Piece.TheVariants as piece
 use Rattle.unit_table.specs.declared.record.Record.{Record}
 use Rattle.unit_table.proofs.Slots.{has_place, slot_of, slot_of_ticket, slot_placed, stands_placed}
 use Rattle.unit_table.proofs.Wakes.{one_slot}
+use Rattle.eval_step.specs.declared.machine.Machine.{Machine}
 use Rattle.value_core.proofs.NamedLaws.{same_or_not}
 use Rattle.value_core.specs.NameSet.{holds_at}
 use Rattle.value_core.specs.Named.{Name, named}
@@ -109,6 +110,18 @@ module _ (b b_2 : Board) (slots : SameSlots b b_2) where
     | inl same ↦ ap (is_unfinished b_2) same ∙ ap goes_on_at put.here ∙ goes ∙ ap (is_unfinished b) (sym same)
     | inr apart ↦ ap goes_on_at (put.others q apart)
   ])
+
+  -- the unit of the name has another machine, and has made so many things
+  pub moved_unfinished : (unfinished : List Bool) (name : Name) (machine : Machine) (made : ℕ) → AreUnfinished b unfinished → IsSome (unit_at b name)
+      → IfSome (unit_at b name) (λ unit. IsPutAt name (Some (piece.Unit (record unit { machine = machine; made = made }))) b b_2) → AreUnfinished b_2 unfinished
+  moved_unfinished unfinished name machine made are there put = on (piece_at b name) refl there put
+    where
+      on : (found : Option Piece) → piece_at b name ≡ found → IsSome (option_and_then unit_in found)
+          → IfSome (option_and_then unit_in found) (λ unit. IsPutAt name (Some (piece.Unit (record unit { machine = machine; made = made }))) b b_2) → AreUnfinished b_2 unfinished
+      on None at there put = absurd (true≢false (sym there))
+      on (Some (piece.Unit unit)) at there put = put_same name _ unfinished are put (sym (ap goes_on_at at))
+      on (Some (piece.Task mark)) at there put = absurd (true≢false (sym there))
+      on (Some (piece.Actor actor)) at there put = absurd (true≢false (sym there))
 
   -- a unit is put that is not finished
   pub add_unfinished : (waits : List (Option ℕ)) (unfinished : List Bool) (name : Name) (ticket : Ticket) (now : Option Piece) → IsKept b waits → AreUnfinished b unfinished

@@ -10,6 +10,12 @@ pub trait Copied: Drop {
         ensures { IfOk result (λ copied. copied ≡ self.now) };
 }
 
+impl Copied for u8 {
+    fn copied(&self, _alloc: Global) -> Result<Self, AllocError> {
+        Ok(*self)
+    }
+}
+
 impl Copied for Value {
     fn copied(&self, alloc: Global) -> Result<Self, AllocError> {
         self.copy(alloc)

@@ -1,7 +1,7 @@
 ghost use Rattle.std.specs.Prelude.{◌≡◌, ◌↔◌, IfOk, IsTrue};
 ghost use Rattle.value_core.specs.Key.{key_cmp, kind_of, bool_of, int_of, bytes_of};
 
-use crate::{Seq, Text};
+use crate::Text;
 use std::alloc::{AllocError, Global};
 use std::cmp::Ordering;
 
@@ -84,8 +84,8 @@ impl Key {
         match self {
             Key::Bool(b) => Ok(Key::Bool(*b)),
             Key::Int(n) => Ok(Key::Int(*n)),
-            Key::Kw(text) => Ok(Key::Kw(Seq::from_bytes(alloc, text.items())?)),
-            Key::Str(text) => Ok(Key::Str(Seq::from_bytes(alloc, text.items())?)),
+            Key::Kw(text) => Ok(Key::Kw(text.copy(alloc)?)),
+            Key::Str(text) => Ok(Key::Str(text.copy(alloc)?)),
         }
     }
 }

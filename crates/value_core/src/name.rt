@@ -2,8 +2,7 @@ ghost use Rattle.std.specs.Prelude.{◌≡◌, ◌<◌, ◌^◌, ℕ, List, [], 
 ghost use Rattle.value_core.specs.NameText.{is_dot, read_on, WritesNumber};
 ghost use Rattle.value_core.specs.Name.{after_cmp, name_text, IsTextOf};
 
-use crate::lists::add;
-use crate::{Seq, Text};
+use crate::Text;
 use itoa::Buffer;
 use smallvec::SmallVec;
 use std::alloc::{AllocError, Global};
@@ -106,10 +105,10 @@ impl Name {
         ensures { IfOk result (λ text. text ≡ name_text self.now) }
     {
         let parts = self.parts();
-        let mut text = Seq::new(alloc);
+        let mut text = Text::new(alloc);
         push_number(&mut text, parts[0])?;
         for number in &parts[1..] {
-            add(&mut text, b'.')?;
+            text.extend(b".")?;
             push_number(&mut text, *number)?;
         }
         Ok(text)

@@ -20,9 +20,6 @@ impl<T> Model for Seq<T> {
     ghost view = { λ a. a.items.items };
 }
 
-/// A list of bytes.
-pub type Text = Seq<u8>;
-
 impl<T> Seq<T> {
     /// The empty list. It takes no memory.
     pub fn new(alloc: Global) -> Self
@@ -88,14 +85,5 @@ impl<T: Copy> Seq<T> {
         Ok(Seq {
             items: Vec::from_slice(alloc, items)?,
         })
-    }
-}
-
-impl Seq<u8> {
-    /// The text of these bytes.
-    pub fn from_bytes(alloc: Global, bytes: &[u8]) -> Result<Self, AllocError>
-        ensures { IfOk result (λ text. text ≡ bytes.now) }
-    {
-        Seq::from_slice(alloc, bytes)
     }
 }

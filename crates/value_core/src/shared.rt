@@ -162,6 +162,23 @@ impl<T: Copied> Shared<T> {
     }
 }
 
+impl<T: Copied + Copy> Shared<T> {
+    /// Appends these items, in their order. For want of memory the list stays. No list that shares the items changes.
+    pub fn extend(&mut self, items: &[T]) -> Result<(), AllocError>
+        ensures ok { OnOk result (self.new ≡ self.old ++ items.now) }
+        ensures err { OnErr result (self.new ≡ self.old) }
+    {
+        self.own(items.len())?;
+        match &mut self.store {
+            Some(own) => match Arc::get_mut(own) {
+                Some(own) => own.extend_from_slice(items),
+                None => Err(AllocError),
+            },
+            None => Err(AllocError),
+        }
+    }
+}
+
 // Equal items, with room for so many more.
 fn copies<T: Copied>(alloc: Global, items: &[T], more: usize) -> Result<Vec<T>, AllocError>
     ensures { IfOk result (λ copies. copies.items ≡ items.now) }

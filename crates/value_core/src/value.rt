@@ -4,7 +4,7 @@ ghost use Rattle.value_core.specs.Depth.{depth_of, deepest};
 ghost use Rattle.value_core.specs.Futures.{holds_future};
 ghost use Rattle.value_core.specs.ToKey.{key_of};
 
-use crate::{Dict, Key, Name, Pairs, Seq, Shared, Text};
+use crate::{Dict, Key, Name, Pairs, Shared, Text};
 use std::alloc::{AllocError, Global};
 use thiserror::Error;
 
@@ -94,8 +94,8 @@ impl Value {
             Value::Nil => Ok(Value::Nil),
             Value::Bool(b) => Ok(Value::Bool(*b)),
             Value::Int(n) => Ok(Value::Int(*n)),
-            Value::Str(text) => Ok(Value::Str(Seq::from_bytes(alloc, text.items())?)),
-            Value::Kw(text) => Ok(Value::Kw(Seq::from_bytes(alloc, text.items())?)),
+            Value::Str(text) => Ok(Value::Str(text.copy(alloc)?)),
+            Value::Kw(text) => Ok(Value::Kw(text.copy(alloc)?)),
             Value::Vector(items) => Ok(Value::Vector(items.copy()?)),
             Value::Map(pairs) => Ok(Value::Map(copy_pairs(alloc, pairs)?)),
             Value::Ref(name) => Ok(Value::Ref(name.copy(alloc)?)),
@@ -123,7 +123,7 @@ fn copy_text(alloc: Global, text: &Text) -> Result<Text, KeyNo>
     ensures ok { IfOk result (λ copied. copied ≡ text.now) }
     ensures memory { IfErr result (λ refusal. refusal ≡ KeyNo.Memory) }
 {
-    Seq::from_bytes(alloc, text.items()).map_err(|_| KeyNo::Memory)
+    text.copy(alloc).map_err(|_| KeyNo::Memory)
 }
 
 #[cycle(depth)]

@@ -4,13 +4,13 @@ ghost use Rattle.value_core.specs.Texts.{joined, string_text, key_text, value_te
 
 use std::alloc::{AllocError, Global};
 use value_core::text_writing::{push_bool, push_int, push_keyword, push_quoted, push_separator};
-use value_core::{Key, Pairs, Seq, Style, Text, Value, Values};
+use value_core::{Key, Pairs, Style, Text, Value, Values};
 
 /// The line of some values: their plain texts with one space between them, and a line feed.
 pub fn print_line(alloc: Global, args: &[Value]) -> Result<Text, AllocError>
     ensures { IfOk result (λ text. text ≡ line_of args.now) }
 {
-    let mut text = Seq::new(alloc);
+    let mut text = Text::new(alloc);
     for (index, value) in args.iter().enumerate() {
         push_separator(&mut text, index, b" ")?;
         push_value(&mut text, Style::Plain, value)?;
@@ -23,7 +23,7 @@ pub fn print_line(alloc: Global, args: &[Value]) -> Result<Text, AllocError>
 pub fn str_of(alloc: Global, args: &[Value]) -> Result<Text, AllocError>
     ensures { IfOk result (λ text. text ≡ str_text args.now) }
 {
-    let mut text = Seq::new(alloc);
+    let mut text = Text::new(alloc);
     for value in args {
         push_str_piece(&mut text, value)?;
     }
@@ -34,7 +34,7 @@ pub fn str_of(alloc: Global, args: &[Value]) -> Result<Text, AllocError>
 pub fn readable(alloc: Global, value: &Value) -> Result<Text, AllocError>
     ensures { IfOk result (λ text. text ≡ value_text Style.Readable value.now) }
 {
-    let mut text = Seq::new(alloc);
+    let mut text = Text::new(alloc);
     push_value(&mut text, Style::Readable, value)?;
     Ok(text)
 }

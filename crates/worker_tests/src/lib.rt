@@ -4,6 +4,10 @@
 #[cfg(test)]
 mod gates;
 #[cfg(test)]
+mod live;
+#[cfg(test)]
 mod runs;
 #[cfg(test)]
 mod sharing;
+#[cfg(test)]
+mod sinks;

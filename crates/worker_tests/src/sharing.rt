@@ -13,7 +13,7 @@ use worker_gate::{Gate, NoBetween, Stop, Worked, run_workers};
 use world_lock::{Seat, WorldLock};
 
 /// The program of a source.
-fn program_of(alloc: Global, source: &str) -> Result<Program, AllocError> {
+pub fn program_of(alloc: Global, source: &str) -> Result<Program, AllocError> {
     let forms = read(alloc, source.as_bytes()).map_err(|_| AllocError)?;
     check(alloc, &forms).map_err(|_| AllocError)
 }
@@ -29,7 +29,7 @@ fn closed(lock: WorldLock<World>, seat: Seat<World>) -> World
     }
 }
 
-/// Whether so many workers bring the world to its end, and it has printed that then.
+/// Whether so many workers bring the world to its end, and it has printed that then, where that is given.
 fn shared<R: Threads + Wait + Sync, G: Gate + Sync>(
     rt: &R,
     alloc: Global,
@@ -37,7 +37,7 @@ fn shared<R: Threads + Wait + Sync, G: Gate + Sync>(
     program: &Program,
     workers: u32,
     gate: &G,
-    printed: &str,
+    printed: Option<&str>,
 ) -> Result<bool, AllocError>
     requires few { workers < 100 }
     requires program { program.now ≡ world.setup.program }
@@ -56,24 +56,29 @@ fn shared<R: Threads + Wait + Sync, G: Gate + Sync>(
         &mut NoBetween,
     );
     let world = closed(lock, seat);
-    Ok(stop == Stop::Over && world.end().is_some() && world.output() == printed.as_bytes())
+    Ok(stop == Stop::Over && world.end().is_some() && has_printed(&world, printed))
 }
 
-/// Whether so many workers bring the program to its end, and it has printed that then.
+/// Whether the world has printed that, where it is given.
+fn has_printed(world: &World, printed: Option<&str>) -> bool {
+    match printed {
+        Some(text) => world.output() == text.as_bytes(),
+        None => true,
+    }
+}
+
+/// Whether so many workers bring the program to its end, and it has printed that then, where that is given.
 pub fn is_shared<R: Threads + Wait + Sync, G: Gate + Sync>(
     rt: &R,
     alloc: Global,
     source: &str,
     workers: u32,
     gate: &G,
-    printed: &str,
+    printed: Option<&str>,
 ) -> Result<bool, AllocError>
     requires { workers < 100 }
 {
     let program = Arc::new(alloc, program_of(alloc, source)?)?;
-    if !World::covers(&program) {
-        return Ok(false);
-    }
     let world = World::new(alloc, program.clone()?, Limits::default())?;
     shared(rt, alloc, world, &program, workers, gate, printed)
 }

@@ -4,4 +4,3 @@ pub mod Forking
 pub mod Rousing
 pub mod Settling
 pub mod Trying
-pub mod Turned

@@ -1,5 +1,5 @@
 -- What the world keeps, as it is shared.
-use Rattle.std.specs.Prelude.{◌≡◌, None, Some}
+use Rattle.std.specs.Prelude.{◌≡◌, [], None, Some}
 use Rattle.std.specs.Arc.{arc_value}
 use Rattle.actor_mails.specs.Mails.{held}
 use Rattle.eval_step.specs.Evaluation.{Evaluation, IsOf, IsSame}
@@ -10,6 +10,7 @@ use Rattle.unit_table.specs.declared.unit.Unit.{Unit}
 use Rattle.value_core.specs.Named.{Name}
 use Rattle.value_core.specs.Placed.{filled}
 
+-- no turn runs ahead of the history
 abbrev pub shared_of : Kept → Shared
 shared_of k = record {
   setup = record { program = arc_value k.program; limits = k.limits };
@@ -17,6 +18,8 @@ shared_of k = record {
   versions = k.store.versions;
   board = k.units;
   mails = held k.mails;
+  taken = [];
+  aheads = [];
   attempts = k.attempts.entries;
   owners = filled k.owners;
   bytes = k.output.items;

@@ -5,4 +5,3 @@ pub mod Opening
 pub mod Ready
 pub mod Rows
 pub mod Trying
-pub mod Turning

@@ -59,7 +59,7 @@ pub struct Ready {
 
 impl Kept {
     /// Makes room for one entry more.
-    pub(crate) fn make_room(&mut self) -> Result<(), AllocError>
+    pub fn make_room(&mut self) -> Result<(), AllocError>
         ensures same { shared_of self.new ≡ shared_of self.old }
         ensures others { self.new ≡ record self.old { history = self.new.history } }
         ensures room { OnOk result (0 < self.new.history.room) }
@@ -108,7 +108,7 @@ impl Kept {
     }
 
     /// The run ends. It takes no memory.
-    pub(crate) fn end_with(&mut self, marks: Marks, end: End) -> Given
+    pub fn end_with(&mut self, marks: Marks, end: End) -> Given
         requires room { 0 < self.old.history.room }
         requires told { marks.told ≡ marks.entry }
         ensures { EndsBy (shared_of self.old) marks.entry end result (shared_of self.new) }
@@ -165,7 +165,7 @@ pub(crate) fn marks_of(alloc: Global, name: &Name) -> Result<Marks, AllocError>
 }
 
 /// Appends the entry, for which there is room.
-pub(crate) fn append(history: &mut History, entry: Entry)
+pub fn append(history: &mut History, entry: Entry)
     requires { 0 < history.old.room }
     ensures { history.new.items ≡ history.old.items ++ entry ∷ [] }
 {

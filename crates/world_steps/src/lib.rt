@@ -6,10 +6,9 @@ mod attempts;
 mod kept;
 mod opening;
 mod requests;
-mod turns;
 mod units;
 
 pub use actors::{add_actor, idle, rouse};
 pub use attempts::add_task;
-pub use kept::{Kept, Marks, Ready};
+pub use kept::{Kept, Marks, Ready, append};
 pub use units::value_of;

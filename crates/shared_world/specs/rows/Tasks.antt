@@ -33,7 +33,7 @@ use Rattle.unit_table.specs.declared.piece.Piece.TheVariants as piece
 use Rattle.unit_table.specs.declared.unit.Unit.{Unit}
 use Rattle.value_core.specs.declared.value.Value.{Value}
 use Rattle.value_core.specs.declared.value.Value.TheVariants as value
-use Rattle.value_core.specs.Named.{Name, with_named}
+use Rattle.value_core.specs.Named.{Name, named, with_named}
 
 -- the value of the plain task that is asked for, where it has one
 abbrev pub outer_of : Board → Halt → Option Value
@@ -79,10 +79,10 @@ pub record Conflicts (old : Shared) (u : Name) (x : Unit) (tree : Attempt) (foun
   pub ref_is : slice_get tree.reads conflict.index ≡ Some ref
   pub aborts : Aborts old u x tree ref conflict.version found new
 
--- what an attempt comes to whose root is at its end
+-- what an attempt comes to whose root is at its end, and whose unit stands where the history left it
 pub data RootGives (old : Shared) (u : Name) (x : Unit) (tree : Attempt) (ended : TaskEnd) (found : Given) (new : Shared) : Type 0 where
-  valid : All (IsUnchanged old.versions tree.snapshot) tree.reads → EndGives old u x tree ended found new → RootGives old u x tree ended found new
-  conflicts : Conflicts old u x tree found new → RootGives old u x tree ended found new
+  valid : named u old.aheads ≡ None → All (IsUnchanged old.versions tree.snapshot) tree.reads → EndGives old u x tree ended found new → RootGives old u x tree ended found new
+  conflicts : named u old.aheads ≡ None → Conflicts old u x tree found new → RootGives old u x tree ended found new
 
 abbrev pub AfterStep : Shared → Name → Unit → Name → Attempt → Stepped → Option TaskEnd → Given → Shared → Type 0
 AfterStep old u x task tree went None found new = StepGives old u x task tree went found new

@@ -18,12 +18,13 @@ use Rattle.unit_table.specs.declared.mark.Work.TheVariants as work
 use Rattle.unit_table.specs.declared.piece.Actor.{Actor}
 use Rattle.unit_table.specs.declared.piece.Piece.TheVariants as piece
 use Rattle.unit_table.specs.declared.unit.Unit.{Unit}
-use Rattle.value_core.specs.Named.{Name, made_by, same_name}
+use Rattle.value_core.specs.Named.{Name, made_by, named, same_name}
 use Rattle.world_model.specs.rows.Turns.{busy_with}
 
--- an idle actor of that behaviour, and a settled message
-pub record CanTake (old : Shared) (actor : ActorState) (m : Message) : Type 0 where
+-- an idle actor of that behaviour, with no turn whose begin is held, and a settled message
+pub record CanTake (old : Shared) (a : Name) (actor : ActorState) (m : Message) : Type 0 where
   pub idle : actor.busy ≡ false
+  pub free : named a old.taken ≡ None
   pub definite : m.depends ≡ None
   pub behaviour : Behaviour
   pub behaves : slice_get old.setup.program.behaviours actor.behaviour ≡ Some behaviour
@@ -52,6 +53,6 @@ pub record GaveActor (old : Shared) (a : Name) (found : Given) (new : Shared) : 
   pub first : Message
   pub rest : List Message
   pub mail : mail_at old.mails a ≡ first ∷ rest
-  pub can : CanTake old actor.state first
+  pub can : CanTake old a actor.state first
   pub gives : TakesIfAllowed old a actor.state first rest can.behaviour (old.made == old.setup.limits.units) found new
   pub claims : ClaimsEnd (λ q. same_name q a) old new

@@ -5,7 +5,7 @@ use Rattle.chocola.proofs.replay_command.replay_file.Goals as goal
 
 pub returns-clause-answers : goal.returns-clause-answers
 returns-clause-answers g c =
-    replay_loaded c.args.file.now c.args.trace.now _ _ c.replay_given.result c.in-Ok.given.program c.in-Ok.given.trace c.in-Ok.ensures.loads.0 c.in-Ok.ensures.loads.2 c.in-Ok.ensures.loads.3
+    replay_loaded c.args.file.now c.args.trace.now _ _ c.replay_given.result c.in-Ok.given.program c.in-Ok.given.trace c.in-Ok.ensures.loads.0 c.in-Ok.ensures.loads.1 c.in-Ok.ensures.loads.2
     c.replay_given.ensures.replay c.replay_given.ensures.writes (record { held = c.in-Ok.ensures.same; faults = c.in-Ok.ensures.writes })
 
 pub returns-in-Err-clause-answers : goal.returns-in-Err-clause-answers

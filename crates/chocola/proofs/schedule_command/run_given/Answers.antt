@@ -11,7 +11,7 @@ returns-in-Ok-clause-reports g c = rw (c.deref.ensures, c.in-Ok.ensures.program)
 pub returns-clause-answers : goal.returns-clause-answers
 returns-clause-answers g c =
     let unrun = c.out_of_memory.ensures.outcome in
-    ProgramAnswers-stopped c.out_of_memory.result unrun.status _ c.args.trace.now _ _ unrun.detail unrun.end
+    ProgramAnswers-stopped c.out_of_memory.result unrun.status _ c.args.trace.now _ _ _ unrun.detail unrun.end
     (Finished-unbegun _ c.out_of_memory.result _ _ unrun.history unrun.status unrun.end refl)
 
 pub returns-clause-reports : goal.returns-clause-reports

@@ -12,7 +12,7 @@ use Rattle.chocola.proofs.schedule_command.run_world.Goals as goal
 pub returns-in_default-clause-answers : goal.returns-in_default-clause-answers
 returns-in_default-clause-answers g c =
     let world = c.drive_to_end.new.world in
-    ProgramAnswers-stopped c.stopped_after.result c.stopped_after.ensures.status _ c.args.trace.now _ _ c.stopped_after.ensures.detail c.stopped_after.ensures.end
+    ProgramAnswers-stopped c.stopped_after.result c.stopped_after.ensures.status _ c.args.trace.now _ _ _ c.stopped_after.ensures.detail c.stopped_after.ensures.end
     (subst (λ setup. Finished setup (g.K.Sink.seen c.args.outside.out.now) (g.K.Sink.seen c.args.outside.out.now) c.stopped_after.result)
     (c.drive_to_end.ensures.setup ∙ opening_setup _ _ c.requires.opens)
     (Finished-stopped (record { setup = world.setup; history = world.history }) c.stopped_after.result _ _ (ap (λ h. h.items) c.stopped_after.ensures.history ∙ c.into_history.ensures) (has_state world c.stands.ensures.stands)

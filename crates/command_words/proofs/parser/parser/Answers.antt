@@ -22,5 +22,7 @@ returns c =
     ∙ ap₂ with_subcommand with_schedule (ap (λ (a : App). a.top) c.in_ok-replay.ensures.told) in
     let with_check = c.in_ok-subcommand-4.ensures.shape c.in_ok-check.ensures.local
     ∙ ap₂ with_subcommand with_replay (ap (λ (a : App). a.top) c.in_ok-check.ensures.told) in
-    IfOk-weaker c.subcommand-5.result _ _ (λ parser added. added.shape c.in_ok-make.ensures.local
-    ∙ ap₂ with_subcommand with_check (ap (λ (a : App). a.top) c.in_ok-make.ensures.told)) c.subcommand-5.ensures
+    let with_make = c.in_ok-subcommand-5.ensures.shape c.in_ok-make.ensures.local
+    ∙ ap₂ with_subcommand with_check (ap (λ (a : App). a.top) c.in_ok-make.ensures.told) in
+    IfOk-weaker c.subcommand-6.result _ _ (λ parser added. added.shape c.in_ok-stress.ensures.local
+    ∙ ap₂ with_subcommand with_make (ap (λ (a : App). a.top) c.in_ok-stress.ensures.told)) c.subcommand-6.ensures

@@ -1,4 +1,4 @@
-use Rattle.std.proofs.Common.{subst}
+use Rattle.std.proofs.Common.{subst, refl}
 use Rattle.interleave_core.proofs.Given.{body-there, unit-gave-so, unit-of}
 use Rattle.interleave_core.specs.Giving.{IsStanderOf}
 use Rattle.world_steps.specs.Kept.{shared_of}
@@ -17,4 +17,4 @@ give_unit-requires-clause-body c =
 pub returns-in-Unit : goal.returns-in-Unit
 returns-in-Unit c =
     let s = shared_of c.args.kept.now in
-    unit-gave-so s (shared_of c.give_unit.new.self) c.requires.stands c.args.name.now c.args.moved c.give_unit.result (subst (IsStanderOf s c.args.name.now) c.in-Unit.is c.in_ok-stander_of.ensures) c.requires.moved c.give_unit.ensures
+    unit-gave-so s (shared_of c.give_unit.new.self) c.requires.stands c.args.name.now c.args.moved c.give_unit.result refl (subst (IsStanderOf s c.args.name.now) c.in-Unit.is c.in_ok-stander_of.ensures) c.requires.moved c.give_unit.ensures

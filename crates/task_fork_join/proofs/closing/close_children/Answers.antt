@@ -1,6 +1,11 @@
 use Rattle.std.proofs.Common.{◌≡◌, ◌<◌, ◌+◌, suc, ap, subst, refl, arith}
+use Rattle.task_fork_join.proofs.Kinship.{goes_grow, grows_itself}
 use Rattle.task_fork_join.specs.Closing.{Goes, IsWent}
 use Rattle.task_fork_join.proofs.closing.close_children.Goals as goal
+
+pub close_child-requires : goal.close_child-requires
+close_child-requires c = (goes_grow c.args.tasks.now.entries c.requires.kin c.args.parts.now.knows c.args.parts.now c.loop-number.number c.loop-number.parts
+    (grows_itself c.args.tasks.now.entries c.args.parts.now.knows c.requires.own c.requires.there) c.loop-number.invariant.goes).kin
 
 pub returns-in-Waits : goal.returns-in-Waits
 returns-in-Waits c = record {

@@ -1,8 +1,17 @@
 use Rattle.std.proofs.Common.{subst, sym}
 use Rattle.std.proofs.lemmas.Result.{IfOk-at_ok}
 use Rattle.transcript.proofs.live.write_live.Goals as goal
+use Rattle.transcript.proofs.Printed.{replayed}
 use Rattle.transcript.proofs.Writing.{all-written, more-written, where-ok}
 use Rattle.transcript.specs.Written.{IsBehind}
+
+pub returns-in-Ok-clause-replays : goal.returns-in-Ok-clause-replays
+returns-in-Ok-clause-replays g c =
+    replayed c.args.lock.now.setup c.bytes_behind-seat.result.seat.seen c.bytes_behind-seat.result.total c.bytes_behind-seat.ensures.printed
+
+pub returns-in-Err-clause-replays : goal.returns-in-Err-clause-replays
+returns-in-Err-clause-replays g c =
+    replayed c.args.lock.now.setup c.bytes_behind-seat.result.seat.seen c.bytes_behind-seat.result.total c.bytes_behind-seat.ensures.printed
 
 pub returns-in-Ok-clause-kept : goal.returns-in-Ok-clause-kept
 returns-in-Ok-clause-kept g c = λ start h.

@@ -11,4 +11,4 @@ returns-then-more-saturating_sub c =
 pub returns : goal.returns
 returns c =
     rest-passed c.args.self.run c.args.self.passed c.args.more c.args.self.below (omega (arith, c.many_before-before.ensures, c.requires, c.saturating_sub.ensures, c.if-more-saturating_sub.false))
-    ∙ ap (λ l. run_back c.args.self.run.now.counts_on (first_of c.args.self) c.args.more ++ l) (sym c.from.ensures)
+    ∙ ap (λ l. run_back c.args.self.run.now.stride (first_of c.args.self) c.args.more ++ l) (sym c.from.ensures)

@@ -1,7 +1,8 @@
 use Rattle.std.proofs.Common.{◌∙◌, List, arith, length, sym, ap, subst}
 use Rattle.ref_store.specs.Writes.{IsGapFor}
+use Rattle.shared_map.proofs.NameLaws.{rises-with_member}
 use Rattle.txn_snapshot.specs.Reads.{marked, with_read, ReadsRise}
-use Rattle.txn_snapshot.proofs.ReadLaws.{length-marked, read_gap, read_stays, rises-with_read}
+use Rattle.txn_snapshot.proofs.ReadLaws.{length-marked, read_gap, read_stays}
 use Rattle.txn_snapshot.proofs.reads.Reads.put.Goals as goal
 use Rattle.value_core.specs.Named.{Name}
 use Rattle.value_core.specs.Roomy.{Roomy}
@@ -23,7 +24,7 @@ invariant_of-self-in-Err c =
     let same = ap (λ (r : Roomy Name). r.items) c.self.view_is in
     let gap = subst (λ (ns : List Name). IsGapFor (marked ns) c.args.name c.in-Err.at) (sym same) c.in-Err.ensures.absent in
     subst (λ (ns : List Name). ReadsRise ns) (read_gap c.self.inside.items.items c.args.name c.in-Err.at gap ∙ sym c.in_ok-insert-in-Err.ensures.items)
-    (rises-with_read c.self.inside.items.items c.args.name c.self.invariant)
+    (rises-with_member c.self.inside.items.items c.args.name c.self.invariant)
 
 pub returns-in_ok-insert-in-Err-clause-put : goal.returns-in_ok-insert-in-Err-clause-put
 returns-in_ok-insert-in-Err-clause-put c =
