@@ -1,7 +1,7 @@
 -- Attempts that commit.
 use Rattle.std.proofs.Common.{◌≡◌, ◌∙◌, ℕ, Bool, true, false, cond, suc, length, List, [], ◌∷◌, ◌++◌, refl, sym, ap, subst, le_trans}
 use Rattle.std.specs.Option.{IsSome, option_and_then}
-use Rattle.std.specs.Prelude.{IfSome, None, Option, Some, map, ◌&&◌}
+use Rattle.std.specs.Prelude.{IfSome, None, Option, Some, is_some, map, ◌&&◌}
 use Rattle.actor_mails.specs.Mails.{mail_at}
 use Rattle.eval_step.specs.Evaluation.{Evaluation}
 use Rattle.attempt_steps.proofs.Aborting.{claims-go, tasks-go, trying-unfinished, unit-stays}
@@ -23,7 +23,7 @@ use Rattle.serial_model.specs.State.{UnitState}
 use Rattle.serial_model.specs.Step.{answered, with_made}
 use Rattle.shared_world.specs.declared.given.Given.{Given}
 use Rattle.shared_world.specs.declared.given.Given.TheVariants as given
-use Rattle.shared_world.specs.rows.Actors.{spawned}
+use Rattle.shared_world.specs.rows.Actors.{acted, spawned}
 use Rattle.shared_world.specs.rows.Attempts.{ActorsAct, ArePrunedFor, Commits, IsWithout}
 use Rattle.shared_world.specs.rows.Pieces.{but_gone, is_task, task_gone}
 use Rattle.shared_world.specs.Shared.{Shared, actor_of, finished_by, unit_state}
@@ -106,7 +106,7 @@ module _ (old new : Shared) (mid settled_board : Board) (left : Named Attempt) (
     (undone : IsUndone u old.attempts old.board left mid) (is : IsUnitOf old u moved) (given_so : IsGiven moved (answer.Value v) machine) (has : (tree : Attempt) → named u old.attempts ≡ Some tree → HasGathered u tree g)
     (made_so : (x : Unit) → unit_at old.board u ≡ Some x → made ≡ suc x.made) (number_so : number ≡ suc (length old.history)) (pruned : ArePrunedFor left (committed old.versions g.writes.items number) new.versions)
     (found_is : found ≡ given.Settled (Run u)) (set : IfSome (unit_at mid u) (λ (x : Unit). IsMoved u x machine made (mark.Ready work.Eval) mid settled_board))
-    (vacant : (a : Name) → IsSome (named a g.deeds.actors.entries) → piece_at old.board a ≡ None) (done : AreDone u g.deeds old.mails new.mails settled_board new.board)
+    (vacant : (a : Name) → IsSome (named a g.deeds.actors.entries) → piece_at old.board a ≡ None) (free : (a : Name) → named a old.taken ≡ None) (done : AreDone u g.deeds old.mails new.mails settled_board new.board)
     (others : new ≡ record old { history = old.history ++ Run u ∷ []; versions = new.versions; attempts = left; bytes = old.bytes ++ g.text.items; board = new.board; mails = new.mails }) where
   left_is : new.attempts ≡ left
   left_is = ap (λ (s : Shared). s.attempts) others
@@ -162,7 +162,8 @@ module _ (old new : Shared) (mid settled_board : Board) (left : Named Attempt) (
       pieces = λ a.
           done.pieces a ∙ ap (λ made. begun made (mail_at new.mails a) (reached (letters_to a g.deeds.letters.items) (piece_at done.board a))) (made_at a)
           ∙ ap (λ ms. begun (spawned effects a) (mail_at new.mails a) (reached ms (piece_at done.board a))) (sent_to a)
-          ∙ acted-so u (spawned effects a) (effects_to a effects) (mail_at new.mails a) (piece_at done.board a);
+          ∙ acted-so u (spawned effects a) (effects_to a effects) (mail_at new.mails a) (piece_at done.board a)
+          ∙ ap (λ found. acted (is_some found) (spawned effects a) (effects_to a effects) (mail_at new.mails a) (piece_at done.board a)) (sym (free a));
     }
 
     pub row-so : Commits old u x tree v found new

@@ -112,7 +112,7 @@ pub letters-are : (u : Name) (effects : List Effect) (d : Deeds) → AreDeeds u 
 letters-are u effects d are a = sym (append-nil (letters_to a d.letters.items)) ∙ are.letters a
 
 -- what stands under a name then
-pub acted-so : (u : Name) (made : Option ActorState) (sent : List (List Value)) (mail : List Message) (found : Option Piece) → begun made mail (reached (map (settled u) sent) found) ≡ acted made sent mail found
+pub acted-so : (u : Name) (made : Option ActorState) (sent : List (List Value)) (mail : List Message) (found : Option Piece) → begun made mail (reached (map (settled u) sent) found) ≡ acted false made sent mail found
 acted-so u (Some state) sent mail found = refl
 acted-so u None [] mail found = refl
 acted-so u None (args ∷ more) mail found = refl

@@ -12,7 +12,7 @@ use Rattle.serial_model.specs.Sends.{effects_to}
 use Rattle.shared_world.proofs.Live.{unit-piece}
 use Rattle.shared_world.specs.declared.given.Given.{Given}
 use Rattle.shared_world.specs.Gave.{gone_with, is_gone}
-use Rattle.shared_world.specs.rows.Actors.{acted, roused, spawned}
+use Rattle.shared_world.specs.rows.Actors.{acted, roused_unless, spawned}
 use Rattle.shared_world.specs.rows.Attempts.{ActorsAct, AttemptGoes}
 use Rattle.shared_world.specs.rows.Pieces.{ClaimsEnd, IsSet, but_gone, is_task, piece_or_task, task_gone}
 use Rattle.shared_world.specs.rows.Tasks.{EndGives, RootGives, conflicts, valid}
@@ -97,14 +97,15 @@ stays-itself old new q some = refl
 pub acts-stay : (effects : List Effect) (old new : Shared) (board : Board) → ActorsAct effects old board new → StaysThere old.board board new.board
 acts-stay effects old new board acts q some = ap is_some (acts.pieces q) ∙ on (spawned effects q) (effects_to q effects) refl
   where
-    roused-there : (found : Option Piece) → is_some (option_map roused found) ≡ is_some found
-    roused-there None = refl
-    roused-there (Some p) = refl
+    roused-there : (begun : Bool) (found : Option Piece) → is_some (roused_unless begun found) ≡ is_some found
+    roused-there true found = refl
+    roused-there false None = refl
+    roused-there false (Some p) = refl
 
-    on : (made : Option ActorState) (sent : List (List Value)) → spawned effects q ≡ made → is_some (acted made sent (mail_at new.mails q) (piece_at board q)) ≡ is_some (piece_at board q)
+    on : (made : Option ActorState) (sent : List (List Value)) → spawned effects q ≡ made → is_some (acted (is_some (named q old.taken)) made sent (mail_at new.mails q) (piece_at board q)) ≡ is_some (piece_at board q)
     on (Some state) sent is = let no : false ≡ true = sym (ap is_some (acts.none q state is)) ∙ some in cc
     on None [] is = refl
-    on None (args ∷ more) is = roused-there (piece_at board q)
+    on None (args ∷ more) is = roused-there (is_some (named q old.taken)) (piece_at board q)
 
 -- what is gone was gone in between
 gone-stays : (old mid new : Board) → StaysThere old mid new → (q : Name) → is_gone old mid q ≡ is_gone old new q

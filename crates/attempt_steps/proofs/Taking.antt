@@ -5,11 +5,13 @@ use Rattle.std.specs.Prelude.{Err, IfOk, IfSome, None, Ok, OnErr, Option, Result
 use Rattle.std.specs.declared.alloc.AllocError.{AllocError}
 use Rattle.eval_step.specs.Evaluation.{Evaluation}
 use Rattle.attempt_steps.proofs.Decided.{at-attempt}
+use Rattle.attempt_steps.proofs.Wanting.{same-itself}
+use Rattle.world_steps.specs.Kept.{IsSameBut}
 use Rattle.attempt_steps.proofs.Ending.{NoneGone, decided-ends, goes-end, marked-ends, put-keeps, set-keeps, stays-itself, undone-ends}
 use Rattle.attempt_steps.specs.declared.tasks.Child.{Child}
 use Rattle.attempt_steps.specs.Deciding.{DecidedOr, IsTrying}
 use Rattle.attempt_steps.specs.Tasks as tasks
-use Rattle.attempt_steps.specs.Tasks.{ComesAfter, DecidedOrWaits, HasMissed, HasForkedTask, HasRoomFor, HasStepped, IfNewest, IsOfStep, IsRoomFor, IsTaskAt, IsTaskIn, MissesOr, TaskMarked, TaskWaits}
+use Rattle.attempt_steps.specs.Tasks.{ComesAfter, DecidedOrWaits, HasMissed, HasForkedTask, HasRoomFor, HasStepped, IfNewest, IsOfStep, IsReadied, IsRoomFor, IsTaskAt, IsTaskIn, MissesOr, TaskMarked, TaskWaits}
 use Rattle.attempt_steps.specs.Undoing.{AbortsOr}
 use Rattle.ref_store.specs.declared.version.Version.{Version}
 use Rattle.ref_store.specs.Store.{versions_of}
@@ -20,7 +22,7 @@ use Rattle.shared_world.specs.Gave.{gone_with}
 use Rattle.shared_world.specs.rows.Attempts.{Aborts, AttemptGoes}
 use Rattle.shared_world.specs.rows.Pieces.{ClaimsEnd}
 use Rattle.shared_world.specs.rows.Tasks.{AfterStep, Missing}
-use Rattle.task_fork_join.specs.Stepping.{is_held_back}
+use Rattle.task_fork_join.specs.Stepping.{is_missing}
 use Rattle.world_steps.specs.declared.kept.Kept.{Kept}
 use Rattle.shared_world.specs.Shared.{Shared}
 use Rattle.shared_world.specs.Stands.{Stands}
@@ -32,6 +34,7 @@ use Rattle.task_fork_join.specs.Step.{IsStep}
 use Rattle.txn_snapshot.specs.SnapshotAnswer.{snapshot_of}
 use Rattle.unit_table.specs.Board.{but_for, lent_to}
 use Rattle.unit_table.specs.declared.mark.Mark.TheVariants as mark
+use Rattle.unit_table.specs.declared.mark.Work.{Work}
 use Rattle.unit_table.specs.declared.mark.Work.TheVariants as work
 use Rattle.unit_table.specs.declared.unit.Unit.{Unit}
 use Rattle.value_core.proofs.NamedLaws.{same_name-equal}
@@ -77,11 +80,9 @@ missed old new owner ref number (Ok found) trying is r = record {
     on None never x tree row = absurd never
     on (Some version) is_number x tree row = subst (λ n. Aborts old owner x tree ref n found new) is_number row
 
--- a decision that found no memory leaves the task ready to settle
-pub decided-waits : (old mid new : Shared) (owner task : Name) (result : Result Given AllocError) → is_err result ≡ true → Stands old → IsTaskAt old.board task → DecidedOr old owner mid result → TaskMarked mid task (mark.Ready work.Settle) new
-    → DecidedOrWaits old owner task new result
-decided-waits old mid new owner task (Ok found) err st at decided marked = cc
-decided-waits old mid new owner task (Err e) err st at same marked = record {
+-- what a mark leaves that says the task is ready
+readied : (w : Work) (old mid new : Shared) (task : Name) → IsSameBut old mid → TaskMarked mid task (mark.Ready w) new → IsReadied w old task new
+readied w old mid new task same marked = record {
   marked = record {
     set = record { here = marked.marked.set.here; others = λ other ne. marked.marked.set.others other ne ∙ same.pieces other };
     others = marked.marked.others ∙ ap (λ (s : Shared). record s { board = new.board }) same.rest;
@@ -96,6 +97,12 @@ decided-waits old mid new owner task (Err e) err st at same marked = record {
     on : (found : Option Name) → (found ≡ Some task → ⊥) → but_for task found ≡ found
     on None free = refl
     on (Some q) free = by q (same_name q task) refl free
+
+-- a decision that found no memory leaves the task ready to settle
+pub decided-waits : (old mid new : Shared) (owner task : Name) (result : Result Given AllocError) → is_err result ≡ true → Stands old → IsTaskAt old.board task → DecidedOr old owner mid result → TaskMarked mid task (mark.Ready work.Settle) new
+    → DecidedOrWaits old owner task new result
+decided-waits old mid new owner task (Ok found) err st at decided marked = cc
+decided-waits old mid new owner task (Err e) err st at same marked = readied work.Settle old mid new task same marked
 
 some-end : (o : Option TaskEnd) → true ≡ is_some o → (P : Option TaskEnd → Type 0) → ((e : TaskEnd) → o ≡ Some e → P (Some e)) → P o
 some-end None is P all = cc
@@ -120,7 +127,7 @@ after-ended old new owner task went (Ok found) has ended r = record {
 -- it is not, and the task waits
 pub after-waits : (old new : Shared) (owner task future : Name) (went : Stepped) (result : Result Given AllocError) → Stands old → HasTask old owner task → IfSome (named owner old.attempts) (λ tree. false ≡ is_some (end_at tree)) → went ≡ stepped.WaitJoin future
     → TaskWaits old task future new result → ComesAfter old owner task went new result
-after-waits old new owner task future went (Err e) st has going is r = tasks.waits (ap is_held_back is) r
+after-waits old new owner task future went (Err e) st has going is r = tasks.again future is (readied work.Eval old old new task (same-itself old) r)
 after-waits old new owner task future went (Ok found) st has going is r = record {
   row = λ x tree there attempt.
       no-end (end_at tree) (at-attempt (named owner old.attempts) (λ (t : Attempt). false ≡ is_some (end_at t)) tree attempt going) (λ e. AfterStep old owner x task tree went e found new)
@@ -136,7 +143,7 @@ record Goes (old : Shared) (owner : Name) (tree : Attempt) (new : Shared) : Type
 -- it is not, and the snapshot does not have the ref
 pub after-misses : (old new : Shared) (owner task ref : Name) (went : Stepped) (result : Result Given AllocError) → Stands old → HasTask old owner task → IfSome (named owner old.attempts) (λ tree. false ≡ is_some (end_at tree))
     → went ≡ stepped.NotInSnapshot ref → MissesOr old owner ref new result → ComesAfter old owner task went new result
-after-misses old new owner task ref went (Err e) st has going is r = tasks.waits (ap is_held_back is) r
+after-misses old new owner task ref went (Err e) st has going is r = tasks.misses (ap is_missing is) r
 after-misses old new owner task ref went (Ok found) st has going is r = record {
   row = λ x tree there attempt.
       no-end (end_at tree) (at-attempt (named owner old.attempts) (λ (t : Attempt). false ≡ is_some (end_at t)) tree attempt going) (λ e. AfterStep old owner x task tree went e found new)

@@ -11,30 +11,28 @@ use Rattle.world_steps.proofs.Forking.{same-claimed, same-stands}
 use Rattle.world_steps.proofs.Settling.{same-claims}
 use Rattle.world_steps.specs.Kept.{IsSameBut}
 use Rattle.attempt_steps.specs.Tasks as left_as
-use Rattle.attempt_steps.specs.Tasks.{ComesAfter, HasCome, HasStepped, IsLeft, IsSettling, IsTaskIn, IsTaskOf, IsWanting, TaskCame}
+use Rattle.attempt_steps.specs.Tasks.{ComesAfter, HasCome, HasStepped, IsLeft, IsReadied, IsReadyTask, IsTaskIn, IsTaskOf, IsWanting, TaskCame}
 use Rattle.serial_model.specs.declared.halt.Halt.{Halt}
 use Rattle.serial_model.specs.declared.halt.Halt.TheVariants as halt
 use Rattle.serial_model.specs.declared.request.Request.TheVariants as request
 use Rattle.serial_model.specs.State.{UnitState}
 use Rattle.shared_world.proofs.ActorPieces.{actor_of_piece}
 use Rattle.shared_world.proofs.Live.{no-unit}
-use Rattle.shared_world.proofs.MarkedTasks.{left-ended, left-settling, left-waiting}
+use Rattle.shared_world.proofs.MarkedTasks.{left-again, left-ended, left-missing, left-settling}
 use Rattle.shared_world.proofs.Marks.{pieces-marks}
-use Rattle.shared_world.proofs.Steps.{marked-task, stepped}
+use Rattle.shared_world.proofs.Steps.{goes-with, marked-task, stepped}
 use Rattle.shared_world.proofs.Ages.{same-age}
 use Rattle.shared_world.specs.Counts.{age_of}
 use Rattle.shared_world.specs.declared.given.Given.{Given}
 use Rattle.shared_world.specs.Gave.{GaveTask}
-use Rattle.shared_world.specs.Marks.{HasMarks}
+use Rattle.shared_world.specs.Marks.{AreMarked, HasMarks}
 use Rattle.shared_world.specs.Returned.{halt_of}
-use Rattle.shared_world.specs.rows.Tasks.{StepsOn, TaskGives, outer_of}
+use Rattle.shared_world.specs.rows.Tasks.{IsMarkedTask, StepsOn, TaskGives, outer_of}
 use Rattle.shared_world.specs.Shared.{Shared, is_going, unit_state}
 use Rattle.shared_world.specs.Stands.{IsUnderWay, Stands, start_of}
 use Rattle.task_fork_join.proofs.StepShapes.{IsShaped, shaped}
-use Rattle.task_fork_join.specs.Attempt.{Attempt, IsKept, end_at, going, machine_of}
+use Rattle.task_fork_join.specs.Attempt.{Attempt, IsKept, end_at, machine_of}
 use Rattle.task_fork_join.specs.declared.stepped.Stepped.{Stepped}
-use Rattle.task_fork_join.specs.declared.task.Stage.{Stage}
-use Rattle.task_fork_join.specs.declared.task.Stage.TheVariants as stages
 use Rattle.task_fork_join.specs.declared.task.Task.{Task}
 use Rattle.task_fork_join.specs.declared.task_end.TaskEnd.{TaskEnd}
 use Rattle.task_fork_join.specs.Running.{HasMachine}
@@ -43,6 +41,7 @@ use Rattle.txn_snapshot.specs.SnapshotAnswer.{snapshot_of}
 use Rattle.unit_table.specs.Board.{Board, SameClaims, SamePieces, lent_to, piece_at}
 use Rattle.unit_table.specs.declared.mark.Mark.{Mark}
 use Rattle.unit_table.specs.declared.mark.Mark.TheVariants as mark
+use Rattle.unit_table.specs.declared.mark.Work.{Work}
 use Rattle.unit_table.specs.declared.mark.Work.TheVariants as work
 use Rattle.unit_table.specs.declared.piece.Piece.{Piece}
 use Rattle.unit_table.specs.declared.piece.Piece.TheVariants as piece
@@ -68,10 +67,10 @@ same-wanting old new name st is = record {
 }
 
 -- a task that is ready to settle for want of memory
-pub settling-wanting : (old new : Shared) (task : Name) (m : Mark) → Stands old → piece_at old.board task ≡ Some (piece.Task m) → IsSettling old task new → IsWanting old task new
+pub settling-wanting : (old new : Shared) (task : Name) (m : Mark) → Stands old → piece_at old.board task ≡ Some (piece.Task m) → IsReadied work.Settle old task new → IsWanting old task new
 settling-wanting old new task m st at is = record {
   stands = marked-task old st task (mark.Ready work.Settle) new (no-unit old.board task m at, ap actor_of_piece at) is.marked;
-  here = inr is.marked.set.here;
+  here = inr (record { work = work.Settle; is = is.marked.set.here });
   others = λ other ne. is.marked.set.others other ne;
   claims = is.claims;
   ages = λ u. ap (λ (s : Shared). age_of s u) is.marked.others;
@@ -92,7 +91,7 @@ wanting-again old mid new name pieces to rest ages marks is = record {
   rest = is.rest ∙ ap (λ (s : Shared). record s { attempts = new.attempts; board = new.board }) rest;
 }
   where
-    on : (found : Option Piece) → (found ≡ piece_at mid.board name) ⊎ (found ≡ Some (piece.Task (mark.Ready work.Settle))) → (found ≡ piece_at old.board name) ⊎ (found ≡ Some (piece.Task (mark.Ready work.Settle)))
+    on : (found : Option Piece) → (found ≡ piece_at mid.board name) ⊎ IsReadyTask found → (found ≡ piece_at old.board name) ⊎ IsReadyTask found
     on found (inl same) = inl (same ∙ pieces name)
     on found (inr ready) = inr ready
 
@@ -118,25 +117,8 @@ task-again old new owner task moved h same is = record {
   asking = is.asking;
 }
 
--- a task that goes on is kept with its machine
-pub record IsGoingWith (tree : Attempt) (task : Name) (machine : Evaluation) : Type 0 where
-  pub t : Task
-  pub there : named task tree.tasks ≡ Some t
-  pub stage : t.stage ≡ stages.Going machine
-
-pub going-with : (tree : Attempt) (task : Name) (machine : Evaluation) → machine_of tree task ≡ Some machine → IsGoingWith tree task machine
-going-with tree task machine is = on (named task tree.tasks) refl is
-  where
-    by-stage : (t : Task) (s : Stage) → t.stage ≡ s → named task tree.tasks ≡ Some t → going (record t { stage = s }) ≡ Some machine → IsGoingWith tree task machine
-    by-stage t (stages.Going m) e there so = let eq : m ≡ machine = cc in record { t = t; there = there; stage = e ∙ ap stages.Going eq }
-    by-stage t (stages.Ended ended) e there so = cc
-
-    on : (found : Option Task) → named task tree.tasks ≡ found → option_and_then going found ≡ Some machine → IsGoingWith tree task machine
-    on None there e = cc
-    on (Some t) there e = by-stage t t.stage refl there e
-
 pub kept-so : (tree : Attempt) (task : Name) (machine moved : Evaluation) → machine_of tree task ≡ Some machine → IsSame machine moved → IsKept task moved tree.tasks
-kept-so tree task machine moved is same = let with-machine = going-with tree task machine is in record { task = with-machine.t; there = with-machine.there; machine = machine; going = with-machine.stage; same = same }
+kept-so tree task machine moved is same = let it = goes-with tree task machine is in record { task = it.task; there = it.there; machine = machine; going = it.keeps; same = same }
 
 outer-same : (old new : Board) (h : Halt) → SamePieces old new → outer_of new h ≡ outer_of old h
 outer-same old new (halt.Ask (request.Join f) at) same = ap (λ p. option_and_then (λ (unit : UnitState). unit.finished) (option_map unit_state (option_and_then unit_in p))) (same f)
@@ -290,29 +272,40 @@ module _ (old mid : Shared) (st : Stands old) (on_going : is_going old.end ≡ t
           by None so e = cc
           by (Some end) so e = (end, so)
 
+      readied-task : (w : Work) → IsReadied w mid task new → IsMarkedTask (record old { attempts = with_named old.attempts owner t.after }) task (mark.Ready w) new
+      readied-task w readied = record { set = record { here = readied.marked.set.here; others = λ other ne. readied.marked.set.others other ne ∙ mid-piece other }; others = on-base readied.marked.others }
+
+      -- the task is ready for that
+      readied-left : (w : Work) → IsReadied w mid task new → (HasMarks old → AreMarked new) → IsWanting old task new
+      readied-left w readied marks = record {
+        stands = marked-task mid taken-stands task (mark.Ready w) new (no-unit mid.board task is.task_in.mark (mid-piece task ∙ is.task_in.there), ap actor_of_piece (mid-piece task ∙ is.task_in.there)) readied.marked;
+        here = inr (record { work = w; is = readied.marked.set.here });
+        others = λ other ne. readied.marked.set.others other ne ∙ mid-piece other;
+        claims = λ ticket free. readied.claims ticket (λ lent. free (sym (mid-lent ticket) ∙ lent)) ∙ mid-lent ticket;
+        ages = ages-so (on-base readied.marked.others);
+        marks = λ right going. marks right;
+        rest = rest-so (on-base readied.marked.others);
+      }
+
       left : IsLeft mid owner task went new → IsWanting old task new
-      left (left_as.waits held same) = record {
+      left (left_as.misses held same) = record {
         stands = same-stands mid new taken-stands same;
         here = inl (same.pieces task ∙ mid-piece task);
         others = λ other ne. same.pieces other ∙ mid-piece other;
         claims = λ ticket free. same.claims.to ticket ∙ mid-lent ticket;
         ages = ages-so (on-base same.rest);
-        marks = λ marks going. left-waiting old st (marks on_going) on_going owner task is.task_in.unit is.tree is.task_in.mark is.task_in.there is.of is.task_in.unit_there is.task_in.attempt before is.machine moved is.kept t.after went step new held
+        marks = λ marks going. left-missing old st (marks on_going) on_going owner task is.task_in.unit is.tree is.task_in.mark is.task_in.there is.of is.task_in.unit_there is.task_in.attempt before is.machine moved is.kept t.after went step new held
             (same.pieces task ∙ mid-piece task ∙ is.task_in.there) (λ q other. same.pieces q ∙ mid-piece q) (on-base same.rest);
         rest = rest-so (on-base same.rest);
       }
-      left (left_as.settles ended settling) = record {
-        stands = marked-task mid taken-stands task (mark.Ready work.Settle) new (no-unit mid.board task is.task_in.mark (mid-piece task ∙ is.task_in.there), ap actor_of_piece (mid-piece task ∙ is.task_in.there)) settling.marked;
-        here = inr settling.marked.set.here;
-        others = λ other ne. settling.marked.set.others other ne ∙ mid-piece other;
-        claims = λ ticket free. settling.claims ticket (λ lent. free (sym (mid-lent ticket) ∙ lent)) ∙ mid-lent ticket;
-        ages = ages-so (on-base settling.marked.others);
-        marks = λ marks going.
-            let end = mid-ended ended in
-            left-ended old st (marks on_going) on_going owner task is.task_in.unit is.tree is.task_in.mark is.task_in.there is.of is.task_in.unit_there is.task_in.attempt before is.machine moved is.kept t.after went step new end.0 end.1
-            (record { set = record { here = settling.marked.set.here; others = λ other ne. settling.marked.set.others other ne ∙ mid-piece other }; others = on-base settling.marked.others });
-        rest = rest-so (on-base settling.marked.others);
-      }
+      left (left_as.again future waits readied) = readied-left work.Eval readied
+          (λ marks. left-again old st (marks on_going) on_going owner task is.task_in.unit is.tree is.task_in.mark is.task_in.there is.of is.task_in.unit_there is.task_in.attempt before is.machine moved is.kept t.after went step new future waits
+          (readied-task work.Eval readied))
+      left (left_as.settles ended readied) = readied-left work.Settle readied
+          (λ marks.
+          let end = mid-ended ended in
+          left-ended old st (marks on_going) on_going owner task is.task_in.unit is.tree is.task_in.mark is.task_in.there is.of is.task_in.unit_there is.task_in.attempt before is.machine moved is.kept t.after went step new end.0 end.1
+          (readied-task work.Settle readied))
 
 -- what is as it was is the same but for room
 pub same-itself : (s : Shared) → IsSameBut s s

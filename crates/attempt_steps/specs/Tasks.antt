@@ -21,7 +21,7 @@ use Rattle.shared_world.specs.Returned.{halt_of}
 use Rattle.shared_world.specs.rows.Pieces.{ClaimsEnd}
 use Rattle.shared_world.specs.Marks.{HasMarks}
 use Rattle.shared_world.specs.rows.Tasks.{AfterStep, Forked, IsMarkedTask, Missing}
-use Rattle.task_fork_join.specs.Stepping.{is_held_back}
+use Rattle.task_fork_join.specs.Stepping.{is_missing}
 use Rattle.shared_world.specs.Shared.{Shared}
 use Rattle.shared_world.specs.Stands.{Stands}
 use Rattle.task_fork_join.specs.Attempt.{Attempt, end_at, machine_of, next_made_at}
@@ -32,7 +32,9 @@ use Rattle.unit_table.specs.Board.{Board, HasPlace, IsUnlent, lent_to, piece_at,
 use Rattle.unit_table.specs.declared.mark.Mark.{Mark}
 use Rattle.unit_table.specs.declared.mark.Mark.TheVariants as mark
 use Rattle.unit_table.specs.declared.mark.WaitOn.TheVariants as wait
+use Rattle.unit_table.specs.declared.mark.Work.{Work}
 use Rattle.unit_table.specs.declared.mark.Work.TheVariants as work
+use Rattle.unit_table.specs.declared.piece.Piece.{Piece}
 use Rattle.unit_table.specs.declared.piece.Piece.TheVariants as piece
 use Rattle.unit_table.specs.declared.unit.Unit.{Unit}
 use Rattle.value_core.specs.declared.ticket.Ticket.{Ticket}
@@ -103,21 +105,26 @@ pub record HasStepped (refs : Name → Option Value) (owner task : Name) (moved 
   pub put : new ≡ with_named old owner after
   pub step : IsStep refs task moved outer h tree after went
 
+-- that is a task with which something can be done
+pub record IsReadyTask (found : Option Piece) : Type 0 where
+  pub work : Work
+  pub is : found ≡ Some (piece.Task (mark.Ready work))
+
 -- For want of memory the history, the refs, the bytes and the end stay, and so does every other piece; the piece is as it was, or
--- it is a task that is ready to settle; no claim ends but one on it; each attempt began where it did; and the marks are right where
+-- it is a task that is ready; no claim ends but one on it; each attempt began where it did; and the marks are right where
 -- they were.
 pub record IsWanting (old : Shared) (name : Name) (new : Shared) : Type 0 where
   pub stands : Stands new
-  pub here : (piece_at new.board name ≡ piece_at old.board name) ⊎ (piece_at new.board name ≡ Some (piece.Task (mark.Ready work.Settle)))
+  pub here : (piece_at new.board name ≡ piece_at old.board name) ⊎ IsReadyTask (piece_at new.board name)
   pub others : (other : Name) → (other ≡ name → ⊥) → piece_at new.board other ≡ piece_at old.board other
   pub claims : (ticket : Ticket) → (lent_to old.board ticket ≡ Some name → ⊥) → lent_to new.board ticket ≡ lent_to old.board ticket
   pub ages : (u : Name) → age_of new u ≡ age_of old u
   pub marks : HasMarks old → HasMarks new
   pub rest : new ≡ record old { attempts = new.attempts; board = new.board }
 
--- the task is ready to settle, and no claim ends but one on it
-pub record IsSettling (old : Shared) (task : Name) (new : Shared) : Type 0 where
-  pub marked : IsMarkedTask old task (mark.Ready work.Settle) new
+-- the task is ready for that, and no claim ends but one on it
+pub record IsReadied (w : Work) (old : Shared) (task : Name) (new : Shared) : Type 0 where
+  pub marked : IsMarkedTask old task (mark.Ready w) new
   pub claims : (ticket : Ticket) → (lent_to old.board ticket ≡ Some task → ⊥) → lent_to new.board ticket ≡ lent_to old.board ticket
 
 -- a task stands under the name
@@ -142,14 +149,14 @@ pub record HasForkedTask (old : Shared) (owner task child : Name) (new : Shared)
   pub forked : Forked old owner task child new
   pub unlent : IsUnlent task old.board new.board
 
--- the task waits for the finish of that one; or for want of memory nothing changes
+-- the task waits for the finish of that one; or for want of memory it can be evaluated again
 pub record IsWaitingTask (old : Shared) (task future : Name) (new : Shared) (found : Given) : Type 0 where
   pub found_is : found ≡ given.Waiting (wait.Finish future)
   pub marked : TaskMarked old task (mark.Waiting (wait.Finish future)) new
 
 abbrev pub TaskWaits : Shared → Name → Name → Shared → Result Given AllocError → Type 0
 TaskWaits old task future new (Ok found) = IsWaitingTask old task future new found
-TaskWaits old task future new (Err e) = IsSameBut old new
+TaskWaits old task future new (Err e) = TaskMarked old task (mark.Ready work.Eval) new
 
 -- the number of the version, where there is one
 abbrev pub IfNewest : Option Version → ℕ → Type 0
@@ -168,17 +175,19 @@ MissesOr old owner ref new (Err e) = IsSameBut old new
 -- what comes of an attempt whose root is at its end; for want of memory the task is ready to settle
 abbrev pub DecidedOrWaits : Shared → Name → Name → Shared → Result Given AllocError → Type 0
 DecidedOrWaits old owner task new (Ok found) = HasDecided old owner new found
-DecidedOrWaits old owner task new (Err e) = IsSettling old task new
+DecidedOrWaits old owner task new (Err e) = IsReadied work.Settle old task new
 
 -- what comes of a task that has taken a step
 pub record HasCome (mid : Shared) (owner task : Name) (went : Stepped) (new : Shared) (found : Given) : Type 0 where
   pub row : (x : Unit) (tree : Attempt) → unit_at mid.board owner ≡ Some x → named owner mid.attempts ≡ Some tree → AfterStep mid owner x task tree went (end_at tree) found new
   pub claims : ClaimsEnd (gone_with mid.board new.board task) mid new
 
--- For want of memory a step that waits changes nothing else; where the root is at its end, the task is ready to settle.
+-- For want of memory a step that waits for a ref changes nothing else; one that waits for a finish can be evaluated again; and
+-- where the root is at its end, the task is ready to settle.
 pub data IsLeft (mid : Shared) (owner task : Name) (went : Stepped) (new : Shared) : Type 0 where
-  waits : is_held_back went ≡ true → IsSameBut mid new → IsLeft mid owner task went new
-  settles : IfSome (named owner mid.attempts) (λ tree. true ≡ is_some (end_at tree)) → IsSettling mid task new → IsLeft mid owner task went new
+  misses : is_missing went ≡ true → IsSameBut mid new → IsLeft mid owner task went new
+  again : (future : Name) → went ≡ stepped.WaitJoin future → IsReadied work.Eval mid task new → IsLeft mid owner task went new
+  settles : IfSome (named owner mid.attempts) (λ tree. true ≡ is_some (end_at tree)) → IsReadied work.Settle mid task new → IsLeft mid owner task went new
 
 abbrev pub ComesAfter : Shared → Name → Name → Stepped → Shared → Result Given AllocError → Type 0
 ComesAfter mid owner task went new (Ok found) = HasCome mid owner task went new found

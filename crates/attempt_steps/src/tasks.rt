@@ -1,5 +1,5 @@
 // How the tasks of attempts take steps.
-ghost use Rattle.std.specs.Prelude.{◌≡◌, IfOk, IfSome, None, OnErr, Some, false, is_some};
+ghost use Rattle.std.specs.Prelude.{◌≡◌, IfOk, IfSome, None, OnErr, OnOk, Some, false, is_some};
 ghost use Rattle.std.specs.Option.{option_copied, IsSome};
 ghost use Rattle.world_steps.specs.Kept.{shared_of, IsSameBut};
 ghost use Rattle.attempt_steps.specs.Deciding.{IsTrying};
@@ -12,7 +12,7 @@ ghost use Rattle.shared_world.specs.Stands.{Stands};
 ghost use Rattle.task_fork_join.specs.Attempt.{IsKept, end_at, next_made_at};
 ghost use Rattle.task_fork_join.specs.Step.{HaltsAt};
 ghost use Rattle.txn_snapshot.specs.SnapshotAnswer.{snapshot_of};
-ghost use Rattle.unit_table.specs.Board.{CanWait};
+ghost use Rattle.unit_table.specs.Board.{CanWait, HasPlace};
 ghost use Rattle.unit_table.specs.Piece.{says_dropped};
 ghost use Rattle.value_core.specs.Named.{named};
 
@@ -292,7 +292,7 @@ fn add_child_task(kept: &mut Kept, alloc: Global, task: &Name, child: Child) -> 
 }
 
 /// The task waits for the finish of that one. Where nothing stands under that name, of which no run knows, it is taken for
-/// want of memory.
+/// want of memory. Then the task can be evaluated again.
 fn wait_for_task(
     kept: &mut Kept,
     alloc: Global,
@@ -302,10 +302,26 @@ fn wait_for_task(
     requires there { IsTaskAt kept.old.units task.now }
     ensures { TaskWaits (shared_of kept.old) task.now future (shared_of kept.new) result }
 {
-    let told = future.copy(alloc)?;
-    kept.check_place(&future)?;
-    mark_task(kept, task, Mark::Waiting(WaitOn::Finish(future)));
-    Ok(Given::Waiting(WaitOn::Finish(told)))
+    match name_with_place(kept, alloc, &future) {
+        Ok(told) => {
+            mark_task(kept, task, Mark::Waiting(WaitOn::Finish(future)));
+            Ok(Given::Waiting(WaitOn::Finish(told)))
+        }
+        Err(error) => {
+            mark_task(kept, task, Mark::Ready(Work::Eval));
+            Err(error)
+        }
+    }
+}
+
+/// The same name, under which something stands.
+fn name_with_place(kept: &Kept, alloc: Global, name: &Name) -> Result<Name, AllocError>
+    ensures same { IfOk result (λ same. same ≡ name.now) }
+    ensures place { OnOk result (HasPlace kept.now.units name.now) }
+{
+    let same = name.copy(alloc)?;
+    kept.check_place(name)?;
+    Ok(same)
 }
 
 /// The attempt is undone, since the store has a version of the ref that the snapshot does not have. Where it has none, of

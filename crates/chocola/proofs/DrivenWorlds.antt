@@ -1,8 +1,8 @@
 -- A world that was driven, and the state that its history replays to.
 use Rattle.std.proofs.Common.{◌≡◌, List, ℕ, ◌++◌, refl, sym, ◌∙◌, ap, subst}
 use Rattle.std.specs.Prelude.{Option, None, Some, IfSome, IsSome}
-use Rattle.interleave_core.specs.Finishing.{NoneOut}
-use Rattle.interleave_core.specs.Over.{IsOverWith}
+use Rattle.run_end.specs.Finishing.{NoneOut}
+use Rattle.run_end.specs.Over.{IsOverWith}
 use Rattle.schedule_drive.proofs.Drives.{drive_appends}
 use Rattle.schedule_drive.specs.Drive.{IsReported}
 use Rattle.schedule_drive.specs.Entries.{entries_told}

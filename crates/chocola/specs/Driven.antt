@@ -1,6 +1,6 @@
 -- The report of a run by a schedule, and its history.
 use Rattle.std.specs.Prelude.{◌≡◌, ◌++◌, ℕ, List}
-use Rattle.interleave_core.specs.Finishing.{NoneOut}
+use Rattle.run_end.specs.Finishing.{NoneOut}
 use Rattle.schedule_drive.specs.Drive.{IsReported}
 use Rattle.schedule_drive.specs.Entries.{entries_told}
 use Rattle.schedule_text.specs.declared.line.Line.{Line}

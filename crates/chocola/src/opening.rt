@@ -1,6 +1,6 @@
 ghost use Rattle.std.specs.Prelude.{◌≡◌, IfOk};
 ghost use Rattle.std.specs.Arc.{arc_value};
-ghost use Rattle.interleave_core.specs.Finishing.{NoneOut};
+ghost use Rattle.run_end.specs.Finishing.{NoneOut};
 ghost use Rattle.shared_world.specs.Opening.{IsOpening};
 
 use core_syntax::Program;

@@ -1,6 +1,6 @@
 ghost use Rattle.std.specs.Prelude.{◌≡◌, IfSome};
-ghost use Rattle.interleave_core.specs.Finishing.{NoneOut};
-ghost use Rattle.interleave_core.specs.Over.{IsOverWith};
+ghost use Rattle.run_end.specs.Finishing.{NoneOut};
+ghost use Rattle.run_end.specs.Over.{IsOverWith};
 ghost use Rattle.shared_world.specs.Later.{IsLater as IsLaterWorld};
 ghost use Rattle.shared_world.specs.Opening.{IsOpening};
 ghost use Rattle.command_phases.specs.Lines.{end_line};

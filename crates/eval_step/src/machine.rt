@@ -18,7 +18,6 @@ use std::marker::Model;
 use value_core::Values;
 
 /// An evaluation that goes on from request to request.
-#[derive(Drop)]
 pub struct Machine {
     body: NodeId,
     values: Values,
@@ -43,6 +42,21 @@ impl Model for Machine {
       answers = m.answers;
       inner = m.inner;
     } };
+}
+
+/// By hand, so that a machine is dropped by a call: a derived drop is done part by part wherever a machine is dropped, and the borrow
+/// checker's part of the proof there has a case for each.
+impl Drop for Machine {
+    fn drop(self) {
+        let Machine {
+            body: _,
+            values: _values,
+            inside: _,
+            fuel: _,
+            answers: _answers,
+            inner: _inner,
+        } = self;
+    }
 }
 
 impl Machine {

@@ -23,6 +23,7 @@ use Rattle.shared_map.specs.contracts.shared_map.SharedMap as shared_map
 use Rattle.shared_map.specs.contracts.shared_names.SharedNames as shared_names
 use Rattle.slot_set.proofs.slot_set.SlotSet.TheSendSync as slots
 use Rattle.task_fork_join.specs.contracts.known.Known as known
+use Rattle.task_fork_join.specs.contracts.task.Closing as closing
 use Rattle.task_fork_join.specs.contracts.task.Stage as stage
 use Rattle.task_fork_join.specs.contracts.task.Task as task
 use Rattle.task_fork_join.specs.contracts.task_end.TaskEnd as task_end
@@ -133,8 +134,11 @@ known_send = search (names_send, fields) depth 60 fits 20000
 task_end_send : IsSend task_end.the_row
 task_end_send = search (value_send, fields) depth 60 fits 20000
 
+closing_send : IsSend closing.the_row
+closing_send = search (machine_send, value_send, fields) depth 60 fits 20000
+
 stage_send : IsSend stage.the_row
-stage_send = search (machine_send, task_end_send, fields) depth 60 fits 20000
+stage_send = search (machine_send, closing_send, task_end_send, fields) depth 60 fits 20000
 
 task_send : IsSend task.the_row
 task_send = search (log_send, known_send, stage_send, fields) depth 60 fits 20000

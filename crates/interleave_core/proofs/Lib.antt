@@ -1,10 +1,3 @@
 pub mod Crossing
-pub mod Ends
-pub mod Finished
-pub mod Given
-pub mod Lending
 pub mod Ready
-pub mod Returning
-pub mod Stale
-pub mod Waits
 pub mod Worlds

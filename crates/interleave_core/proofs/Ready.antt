@@ -2,16 +2,16 @@
 use Rattle.std.proofs.Common.{◌≡◌, ◌∙◌, Bool, true, false, refl, sym, ap}
 use Rattle.std.specs.Prelude.{[], ◌∷◌, Err, IsErrAnd, IsErrOf, List, None, Ok, Option, Result, Some, ◌&&◌, not}
 use Rattle.actor_mailbox.specs.declared.message.Message.{Message}
-use Rattle.interleave_core.proofs.Ends.{over-none-tried}
-use Rattle.interleave_core.proofs.Finished.{over-rests}
-use Rattle.interleave_core.proofs.Lending.{and-left, ready-goes}
+use Rattle.run_end.proofs.Ends.{over-none-tried}
+use Rattle.run_end.proofs.Finished.{over-rests}
+use Rattle.lent_pieces.proofs.Lending.{and-left, ready-goes}
 use Rattle.interleave_core.specs.declared.error.ClaimNo.{ClaimNo}
 use Rattle.interleave_core.specs.declared.error.ClaimNo.TheVariants as no
-use Rattle.interleave_core.specs.Over.{IsOverWith, IsRunOver}
+use Rattle.run_end.specs.Over.{IsOverWith, IsRunOver}
 use Rattle.serial_model.specs.declared.end.End.{End}
 use Rattle.shared_world.specs.Marks.{AreMarked, HasMarks}
 use Rattle.shared_world.specs.Rest.{IsAtRest}
-use Rattle.shared_world.specs.rows.Actors.{actor_mark}
+use Rattle.shared_world.specs.rows.Actors.{actor_mark, has_turn}
 use Rattle.shared_world.specs.Shared.{Shared, is_going, ready}
 use Rattle.shared_world.specs.Stands.{Stands}
 use Rattle.unit_table.specs.Board.{marks_ready, piece_at}
@@ -71,7 +71,7 @@ module _ (s : Shared) (st : Stands s) (marks : HasMarks s) (name : Name) (is_so 
           let no : None ≡ Some of.tree = sym (over-none-tried s st end over (unended s.end going) of.owner) ∙ of.attempt in
           cc
       on (Some (piece.Actor a)) is says =
-          let no : true ≡ false = sym says ∙ ap says_ready (marked.actors name a is) ∙ mailless a.state.busy _ (rest.mail name) in
+          let no : true ≡ false = sym says ∙ ap says_ready (marked.actors name a is) ∙ mailless (has_turn s.taken name a.state) _ (rest.mail name) in
           cc
 
   -- where the piece is ready the run is not over

@@ -4,9 +4,9 @@ use Rattle.std.specs.Prelude.{Err, IfOk, Ok, OnErr, Result}
 use Rattle.std.specs.declared.alloc.AllocError.{AllocError}
 use Rattle.core_syntax.specs.Table.{Table}
 use Rattle.core_syntax.specs.WellFormed.{IsWellFormed}
-use Rattle.interleave_core.proofs.Lending.{pieces-stand}
-use Rattle.interleave_core.specs.Back.{GivesBack}
-use Rattle.interleave_core.specs.Claims.{IsAbandoned, IsClaimOn}
+use Rattle.lent_pieces.proofs.Lending.{pieces-stand}
+use Rattle.lent_pieces.specs.Back.{GivesBack}
+use Rattle.lent_pieces.specs.Claims.{IsAbandoned, IsClaimOn}
 use Rattle.world_steps.specs.Kept.{IsSameBut}
 use Rattle.interleave_core.specs.Standing.{IsStanding}
 use Rattle.serial_model.specs.declared.end.End.{End}

@@ -1,22 +1,19 @@
-// What can be claimed, and when the run is over.
-ghost use Rattle.std.specs.Prelude.{◌≡◌, ◌↔◌, IfNone, IfOk, IfSome, IsErrOf, IsTrue, OnErr, OnOk, Some, false, true};
+// What can be claimed.
+ghost use Rattle.std.specs.Prelude.{◌≡◌, ◌↔◌, IfNone, IfOk, IfSome, IsErrOf, OnErr, false, true};
 ghost use Rattle.std.specs.Option.{option_copied};
-ghost use Rattle.interleave_core.specs.Claims.{IsClaimOn};
+ghost use Rattle.lent_pieces.specs.Claims.{IsClaimOn};
 ghost use Rattle.world_steps.specs.Kept.{shared_of, IsSameBut};
-ghost use Rattle.interleave_core.specs.Over.{IsIdle, IsOverWith, IsRunOver};
+ghost use Rattle.run_end.specs.Over.{IsIdle, IsRunOver};
 ghost use Rattle.interleave_core.specs.declared.error.ClaimNo.TheVariants as no;
 ghost use Rattle.interleave_core.specs.declared.error.NamedNo.TheVariants as named;
-ghost use Rattle.serial_model.specs.declared.end.End.{End as Ending};
-ghost use Rattle.serial_model.specs.declared.end.End.TheVariants as ends;
 ghost use Rattle.shared_world.specs.Marks.{HasMarks};
-ghost use Rattle.shared_world.specs.Rest.{IsAtRest};
 ghost use Rattle.shared_world.specs.Shared.{ready};
 ghost use Rattle.shared_world.specs.Stands.{Stands};
 ghost use Rattle.value_core.specs.Named.{Name as Called};
 
-use crate::claims::claim_piece;
 use crate::error::{ClaimNo, NamedNo};
-use serial_model::End;
+use lent_pieces::claim_piece;
+use run_end::is_over;
 use std::alloc::{AllocError, Global};
 use value_core::Name;
 use world_claim::Claim;
@@ -72,36 +69,5 @@ fn first_ready(kept: &Kept) -> Option<&Name>
     match &kept.end {
         None => kept.units.first_ready(),
         Some(_) => None,
-    }
-}
-
-/// Whether the run is over. It takes no memory.
-pub(crate) fn is_over(kept: &Kept) -> bool
-    requires stands { Stands (shared_of kept.now) }
-    ensures { IsTrue result ↔ IsRunOver (shared_of kept.now) }
-{
-    end_by(kept, &End::Done).is_some()
-}
-
-/// The end of the run, where it is over: the one that is set, or the given one, which is Done. It takes no memory.
-pub(crate) fn end_by<'a>(kept: &'a Kept, done: &'a End) -> Option<&'a End>
-    requires stands { Stands (shared_of kept.now) }
-    requires done { done.now ≡ ends.Done }
-    ensures { (end : Ending) → IsOverWith (shared_of kept.now) end ↔ (option_copied result ≡ Some end) }
-{
-    match &kept.end {
-        Some(end) => Some(end),
-        None if is_at_rest(kept) => Some(done),
-        None => None,
-    }
-}
-
-/// Whether every unit is finished, and nobody has mail. It takes no memory.
-fn is_at_rest(kept: &Kept) -> bool
-    ensures { IsTrue result ↔ IsAtRest (shared_of kept.now) }
-{
-    match kept.units.open_unit() {
-        Some(_) => false,
-        None => kept.mails.is_empty(),
     }
 }

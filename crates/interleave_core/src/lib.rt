@@ -2,10 +2,7 @@
 #![tactic(auto)]
 
 mod claiming;
-mod claims;
 mod error;
-mod finishing;
-mod giving;
 mod grows;
 mod world;
 

@@ -1,11 +1,12 @@
 ghost use Rattle.std.specs.Prelude.{◌≡◌, ◌↔◌, IfOk, IsErrOf, IsTrue, None, OnErr, OnOk, Some, false, true};
 ghost use Rattle.std.specs.Arc.{arc_value};
 ghost use Rattle.std.specs.Option.{option_copied};
-ghost use Rattle.interleave_core.specs.Back.{IsBack};
-ghost use Rattle.interleave_core.specs.Claims.{IsAbandoned, IsClaimOn, IsStale};
-ghost use Rattle.interleave_core.specs.Finishing.{IsFinished};
+ghost use Rattle.lent_pieces.specs.Back.{IsBack};
+ghost use Rattle.lent_pieces.specs.Claims.{IsAbandoned, IsClaimOn, IsStale};
+ghost use Rattle.run_end.specs.Finishing.{IsFinished};
+ghost use Rattle.run_end.specs.InTurn.{GoesInTurn};
 ghost use Rattle.world_steps.specs.Kept.{IsSameBut};
-ghost use Rattle.interleave_core.specs.Over.{IsIdle, IsOverWith, IsRunOver};
+ghost use Rattle.run_end.specs.Over.{IsIdle, IsOverWith, IsRunOver};
 ghost use Rattle.interleave_core.specs.declared.error.ClaimNo.TheVariants as no;
 ghost use Rattle.interleave_core.specs.declared.error.NamedNo.TheVariants as named;
 ghost use Rattle.serial_model.specs.declared.end.End.{End as Ending};
@@ -19,12 +20,11 @@ ghost use Rattle.shared_world.specs.Stands.{Stands};
 ghost use Rattle.unit_table.specs.Board.{actor_at};
 ghost use Rattle.value_core.specs.declared.ticket.Ticket.{Ticket as Numbered};
 
-use crate::claiming::{claim_any, claim_named, end_by, is_ready};
-use crate::claims::abandon;
+use crate::claiming::{claim_any, claim_named, is_ready};
 use crate::error::{ClaimNo, NamedNo, StepNo};
-use crate::finishing::finish;
-use crate::giving::give;
 use core_syntax::Program;
+use lent_pieces::{abandon, give};
+use run_end::{end_by, finish};
 use serial_model::{ActorState, End, History, Limits};
 use shared_world::Given;
 use std::alloc::{AllocError, Global};
@@ -117,12 +117,14 @@ impl World {
         abandon(&mut self.kept, ticket);
     }
 
-    /// Ends the run by one thread: every claim and every attempt ends, and then one entry after the other is settled, always of
-    /// the first piece in after-order with which something can be done, until the run is over; it answers the end. Then no
-    /// attempt is left, and no claim is out. For want of memory the history has grown by whole entries.
+    /// Ends the run by one thread: every claim and every attempt ends, and then one entry after the other is settled, each in turn,
+    /// until the run is over; it answers the end. The unit goes that is first in after-order among those that are not finished, and a
+    /// turn begins only where each unit is finished. Then no attempt is left, and no claim is out. For want of memory the history has
+    /// grown by whole entries, each in turn.
     pub fn finish(&mut self, alloc: Global) -> Result<End, AllocError>
         ensures finished { IfOk result (IsFinished self.new) }
         ensures later { IsLater self.old self.new }
+        ensures in_turn { GoesInTurn self.old self.new }
     {
         finish(&mut self.kept, alloc)
     }

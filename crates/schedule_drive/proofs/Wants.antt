@@ -1,6 +1,6 @@
 -- A world after memory was wanting.
 use Rattle.std.proofs.Common.{◌≡◌, ◌∙◌, [], append-nil, ap, sym}
-use Rattle.interleave_core.specs.Back.{IsBack}
+use Rattle.lent_pieces.specs.Back.{IsBack}
 use Rattle.world_steps.specs.Kept.{IsSameBut}
 use Rattle.schedule_drive.specs.Drive.{IsLater}
 use Rattle.shared_world.specs.Returned.{Returned}

@@ -1,6 +1,6 @@
 -- A world that is driven by the lines of a schedule.
 use Rattle.std.specs.Prelude.{◌≡◌, ◌∷◌, ◌&&◌, [], ℕ, Bool, true, false, List, Some, is_some, not}
-use Rattle.interleave_core.specs.Claims.{IsAbandoned, IsClaimOn}
+use Rattle.lent_pieces.specs.Claims.{IsAbandoned, IsClaimOn}
 use Rattle.schedule_drive.specs.Report.{report_text}
 use Rattle.serial_model.specs.declared.entry.Entry.{Entry}
 use Rattle.schedule_drive.specs.declared.told.Told.{Told}

@@ -1,6 +1,6 @@
 //! What comes of each line of a schedule.
 ghost use Rattle.std.specs.Prelude.{◌≡◌, ◌&&◌, IfOk, OnErr, not, true};
-ghost use Rattle.interleave_core.specs.Claims.{IsClaimOn};
+ghost use Rattle.lent_pieces.specs.Claims.{IsClaimOn};
 ghost use Rattle.schedule_drive.specs.Drive.{can_go, can_turn, has_result, is_actor, Comes, IsClaimedAndRun, IsLater, IsRunAndGiven};
 ghost use Rattle.schedule_drive.specs.UnderWay.{stage, AreOf, ComesAlone};
 ghost use Rattle.schedule_text.specs.declared.line.Line.TheVariants as line;

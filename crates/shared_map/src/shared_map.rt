@@ -100,13 +100,16 @@ impl<V: Copied> SharedMap<V> {
         Ok(entries)
     }
 
-    /// Puts equal entries of the other map over those that are there. For want of memory some of them may be there.
+    /// Puts equal entries of the other map over those that are there. For want of memory the map stays.
     pub fn put_all(&mut self, more: &SharedMap<V>) -> Result<(), AllocError>
-        ensures { OnOk result (self.new ≡ over more.now self.old) }
+        ensures put { OnOk result (self.new ≡ over more.now self.old) }
+        ensures same { OnErr result (self.new ≡ self.old) }
     {
+        let mut both = self.copy()?;
         for (name, value) in more.entries()? {
-            self.put(name, value)?;
+            both.put(name, value)?;
         }
+        *self = both;
         Ok(())
     }
 }

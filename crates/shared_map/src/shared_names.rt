@@ -61,14 +61,17 @@ impl SharedNames {
         self.names.put(name, ())
     }
 
-    /// Adds the names of the other set. For want of memory some of them may be there.
+    /// Adds the names of the other set. For want of memory the names stay.
     pub fn add_all(&mut self, more: &SharedNames) -> Result<(), AllocError>
         ensures added { OnOk result (self.new ≡ fold with_member self.old more.now) }
         ensures among { OnOk result ((q : Called) → is_among q self.new ≡ (is_among q self.old || is_among q more.now)) }
+        ensures same { OnErr result (self.new ≡ self.old) }
     {
+        let mut both = self.copy()?;
         for name in more.list()? {
-            self.add(name)?;
+            both.add(name)?;
         }
+        *self = both;
         Ok(())
     }
 

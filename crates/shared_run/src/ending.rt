@@ -1,7 +1,7 @@
 ghost use Rattle.std.specs.Prelude.{◌≡◌, ◌≤◌, ℕ, IfSome, OnOk, drop};
 ghost use Rattle.std.specs.Io.KnownBytes.{append_known};
 ghost use mathlib.Core.List.{IsPrefix};
-ghost use Rattle.interleave_core.specs.Over.{IsOverWith};
+ghost use Rattle.run_end.specs.Over.{IsOverWith};
 ghost use Rattle.shared_world.specs.Later.{IsLater};
 ghost use Rattle.world_io.specs.Taken.{CountsWrite, TookPrefix};
 

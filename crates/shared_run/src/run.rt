@@ -1,6 +1,6 @@
 ghost use Rattle.std.specs.Prelude.{◌≡◌, ◌≤◌, IfSome, OnOk};
 ghost use Rattle.std.specs.Io.KnownBytes.{append_known};
-ghost use Rattle.interleave_core.specs.Over.{IsOverWith};
+ghost use Rattle.run_end.specs.Over.{IsOverWith};
 ghost use Rattle.shared_world.specs.Later.{IsLater};
 ghost use Rattle.world_io.specs.Taken.{CountsWrite, TookPrefix};
 

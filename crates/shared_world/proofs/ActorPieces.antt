@@ -4,7 +4,7 @@ use Rattle.std.specs.Option.{option_and_then, option_map}
 use Rattle.std.specs.Prelude.{Option, None, Some}
 use Rattle.serial_model.specs.declared.actor_state.ActorState.{ActorState}
 use Rattle.serial_model.specs.State.{UnitState}
-use Rattle.shared_world.specs.rows.Actors.{mark_roused, roused}
+use Rattle.shared_world.specs.rows.Actors.{mark_roused, roused, roused_unless}
 use Rattle.shared_world.specs.rows.Pieces.{IsSet, task_gone}
 use Rattle.shared_world.specs.Shared.{state_at, unit_state}
 use Rattle.unit_table.specs.Board.{Board, IsPutAt, SamePieces, actor_at, piece_at}
@@ -67,6 +67,11 @@ roused-actor None = refl
 roused-actor (Some (piece.Unit x)) = refl
 roused-actor (Some (piece.Task m)) = refl
 roused-actor (Some (piece.Actor a)) = refl
+
+-- whether it is roused or not
+pub roused-same : (c : Bool) (found : Option Piece) → actor_of_piece (roused_unless c found) ≡ actor_of_piece found
+roused-same true found = refl
+roused-same false found = roused-actor found
 
 pub same-pieces-actors : (old new : Board) → SamePieces old new → SameActors old new
 same-pieces-actors old new same a = ap actor_of_piece (same a)

@@ -13,6 +13,8 @@ use Rattle.serial_model.specs.declared.request.Request.TheVariants as request
 use Rattle.serial_model.specs.Step.{next_of}
 use Rattle.shared_world.proofs.Kept.{gave-keeps}
 use Rattle.shared_world.proofs.Later.{gave-later}
+use Rattle.shared_world.proofs.LeadsDo as led
+use Rattle.shared_world.proofs.LeadsDo.{IsLed, lead-led, tentative-led}
 use Rattle.shared_world.proofs.Live.{going}
 use Rattle.shared_world.proofs.Versions.{all-newest, newest-above}
 use Rattle.shared_world.specs.Counts as counts
@@ -316,6 +318,12 @@ takes-turn : (old : Shared) (a : Name) (actor : _) (m : _) (rest : _) (behaviour
 takes-turn old a actor m rest behaviour true found new r = ends-turn old _ _ found new r
 takes-turn old a actor m rest behaviour false found new r = same (none-by found _ r.found_is (λ w. refl)) (ap (λ (s : Shared). s.attempts) r.others)
 
+-- what a turn comes to that runs ahead, and where one is begun
+led-turn : (old : Shared) (found : Given) (new : Shared) → IsLed old found new → Turnover old found new
+led-turn old found new (led.settled entry is setup history attempts) = same (none-by found _ is (λ w. refl)) attempts
+led-turn old found new (led.stays other is none not_undone setup history attempts) = same (none-by found other is not_undone) attempts
+led-turn old found new (led.begun u x m body values at none r) = begun (none-by found _ r.found_is (λ w. refl)) u r.tree none r.attempts r.fresh.new.snapshot_is
+
 pub gave-ages : (old new : Shared) (r : Returned) (found : Given) → Stands old → Gave old r found new → Ages old found new
 gave-ages old new r found st g = on g (longer old new (gave-later old new r found g))
   where
@@ -323,6 +331,8 @@ gave-ages old new r found st g = on g (longer old new (gave-later old new r foun
     on (gave.stale none is unclaimed) grows = ages old new found grows (same (none-by found _ is (λ w. refl)) (ap (λ (s : Shared). s.attempts) unclaimed.rest))
     on (gave.unit name live g) grows = ages old new found grows (unit-turn old name g.unit found new (next_of old.setup (unit_state g.unit)) g.gives)
     on (gave.task name live g) grows = task-ages old st (going old r name live) g.owner g.unit name g.tree g.attempt found new grows (end_at g.tree) (machine_of g.tree name) refl g.gives
+    on (gave.lead name live g) grows = ages old new found grows (led-turn old found new (lead-led old name r.work found new g))
+    on (gave.tentative name live g) grows = ages old new found grows (led-turn old found new (tentative-led old name found new g))
     on (gave.actor name live g) grows = ages old new found grows (takes-turn old name g.actor.state g.first g.rest g.can.behaviour (old.made == old.setup.limits.units) found new g.gives)
 
 -- ---- a run

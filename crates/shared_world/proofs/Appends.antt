@@ -14,6 +14,8 @@ use Rattle.serial_model.specs.declared.halt.Halt.{Halt}
 use Rattle.serial_model.specs.declared.halt.Halt.TheVariants as halt
 use Rattle.serial_model.specs.declared.request.Request.TheVariants as request
 use Rattle.serial_model.specs.State.{UnitState}
+use Rattle.shared_world.proofs.LeadsDo as led
+use Rattle.shared_world.proofs.LeadsDo.{IsLed}
 use Rattle.shared_world.specs.declared.given.Given.{Given}
 use Rattle.shared_world.specs.declared.given.Given.TheVariants as given
 use Rattle.shared_world.specs.Later.{Appends, settled_by}
@@ -152,3 +154,9 @@ module _ (old : Shared) where
       → Appends (settled_by found) old new
   actor-gives a actor m rest behaviour true found new row = ends-by old (Take a m.sender) _ found new refl refl row
   actor-gives a actor m rest behaviour false found new row = adds old new found (Take a m.sender) row.found_is (ap (λ (s : Shared). s.setup) row.others) (ap (λ (s : Shared). s.history) row.others)
+
+-- what a turn comes to that runs ahead, and where one is begun
+pub led-appends : (old : Shared) (found : Given) (new : Shared) → IsLed old found new → Appends (settled_by found) old new
+led-appends old found new (led.settled entry is setup history attempts) = adds old new found entry is setup history
+led-appends old found new (led.stays other is none not_undone setup history attempts) = stays old new found (ap settled_by is ∙ none) setup history
+led-appends old found new (led.begun u x m body values at none r) = stays old new found (ap settled_by r.found_is) (ap (λ (s : Shared). s.setup) r.others) (ap (λ (s : Shared). s.history) r.others)

@@ -13,7 +13,7 @@ use Rattle.shared_world.proofs.ActorPieces.{SameActors, actor_of_piece, actors-p
 use Rattle.shared_world.proofs.Standing.{now-is-newest, under-way}
 use Rattle.shared_world.proofs.States.{SameStates, machines-put, machines-set, task-put, unit-set}
 use Rattle.shared_world.specs.declared.given.Given.{Given}
-use Rattle.shared_world.specs.rows.Attempts.{Begins}
+use Rattle.shared_world.specs.rows.Attempts.{BeginsMarked}
 use Rattle.shared_world.specs.Seen.{AttemptSeen, IsSeenAttempt, live_with}
 use Rattle.shared_world.specs.Shared.{Shared, finished_at, is_going, state_at, unit_state}
 use Rattle.shared_world.specs.Stands.{IsMachine, IsUnderWay, Stands, start_of}
@@ -22,7 +22,6 @@ use Rattle.task_fork_join.specs.Attempt.{Attempt}
 use Rattle.txn_snapshot.specs.SnapshotAnswer.{snapshot_of}
 use Rattle.unit_table.specs.declared.mark.Mark.{Mark}
 use Rattle.unit_table.specs.declared.mark.Mark.TheVariants as mark
-use Rattle.unit_table.specs.declared.mark.WaitOn.TheVariants as wait
 use Rattle.unit_table.specs.declared.mark.Work.TheVariants as work
 use Rattle.unit_table.specs.declared.piece.Piece.TheVariants as piece
 use Rattle.unit_table.specs.declared.unit.Unit.{Unit}
@@ -43,9 +42,9 @@ module _ (old : Shared) (st : Stands old) (u : Name) (x : Unit) (on_going : old.
   abbrev unit : UnitState
   unit = unit_state x
 
-  pub begins : (body : NodeId) (values : List Value) (at : Spot) → next_of old.setup unit ≡ halt.Ask (request.Dosync body values) at → named u old.attempts ≡ None
-      → (found : Given) (new : Shared) → Begins old u x body values at found new → Stands new
-  begins body values at asks none found new r = subst Stands (sym (r.others ∙ ap (λ all. record old { attempts = all; owners = new.owners; board = new.board }) r.attempts)) (record {
+  pub begins : (m : Mark) (body : NodeId) (values : List Value) (at : Spot) → next_of old.setup unit ≡ halt.Ask (request.Dosync body values) at → named u old.attempts ≡ None
+      → (found : Given) (new : Shared) → BeginsMarked old u x m body values at found new → Stands new
+  begins m body values at asks none found new r = subst Stands (sym (r.others ∙ ap (λ all. record old { attempts = all; owners = new.owners; board = new.board }) r.attempts)) (record {
     formed = st.formed;
     world = with_attempt w u tried;
     is_world = gave-keeps old.setup st.formed w (with_attempt w u tried) None st.is_world (row.begins_attempt u live tried (record {
@@ -73,7 +72,7 @@ module _ (old : Shared) (st : Stands old) (u : Name) (x : Unit) (on_going : old.
       made = st.seen.made;
       end = st.seen.end;
     };
-    machines = machines-set (IsMachine old.setup) u r.waits.unit waiting r.board new.board r.waits.stands.machine r.waits.set
+    machines = machines-set (IsMachine old.setup) u r.waits.unit m r.board new.board r.waits.stands.machine r.waits.set
         (machines-put (IsMachine old.setup) (next_made u unit) (Some (piece.Task (mark.Ready work.Eval))) old.board r.board (λ z e. cc) r.root st.machines);
     attempts = λ go v tree there. way v tree (same_name v u) refl (sym (named-with_named v u r.tree old.attempts) ∙ there);
     numbers = st.numbers;
@@ -89,14 +88,11 @@ module _ (old : Shared) (st : Stands old) (u : Name) (x : Unit) (on_going : old.
       now : live.now ≡ unit
       now = now-kept (named u old.aheads) unit
 
-      waiting : Mark
-      waiting = mark.Waiting (wait.Finish (next_made u unit))
-
       tried : world.Attempt
       tried = record { root = next_made u unit; at = at; body = body; values = values; snapshot = length old.history; store = w.refs; reads = []; joined = []; effects = []; ended = None }
 
       same : SameStates old.board new.board
-      same q = unit-set u r.waits.unit waiting r.board new.board r.waits.set q ∙ on (same_name q u) refl ∙ task-put (next_made u unit) (mark.Ready work.Eval) old.board r.board (no-piece old.board (next_made u unit) r.none) r.root q
+      same q = unit-set u r.waits.unit m r.board new.board r.waits.set q ∙ on (same_name q u) refl ∙ task-put (next_made u unit) (mark.Ready work.Eval) old.board r.board (no-piece old.board (next_made u unit) r.none) r.root q
         where
           kept : state_at r.board u ≡ Some unit
           kept = task-put (next_made u unit) (mark.Ready work.Eval) old.board r.board (no-piece old.board (next_made u unit) r.none) r.root u ∙ is_there
@@ -107,7 +103,7 @@ module _ (old : Shared) (st : Stands old) (u : Name) (x : Unit) (on_going : old.
 
       same_actors : SameActors old.board new.board
       same_actors a =
-          actors-set u (piece.Unit r.waits.unit) waiting r.board new.board refl (put u ∙ unit-no-actor old.board u unit is_there) r.waits.set a ∙ put a
+          actors-set u (piece.Unit r.waits.unit) m r.board new.board refl (put u ∙ unit-no-actor old.board u unit is_there) r.waits.set a ∙ put a
         where
           put : SameActors old.board r.board
           put = actors-put (next_made u unit) (Some (piece.Task (mark.Ready work.Eval))) old.board r.board (sym (ap actor_of_piece r.none)) r.root

@@ -8,10 +8,12 @@ use Rattle.ref_store.specs.Store.{versions_of}
 use Rattle.ref_store.specs.Version.{newest}
 use Rattle.serial_model.specs.declared.halt.Halt.TheVariants as halt
 use Rattle.serial_model.specs.declared.request.Request.TheVariants as request
-use Rattle.serial_model.specs.Step.{next_of}
+use Rattle.serial_model.specs.Step.{next_made, next_of}
 use Rattle.shared_world.proofs.Begins.{begins}
 use Rattle.shared_world.proofs.Commits.{end-keeps}
 use Rattle.shared_world.proofs.Gone.{aborted}
+use Rattle.shared_world.proofs.LeadsBegin.{begun-keeps}
+use Rattle.shared_world.proofs.LeadsKeep.{lead-keeps}
 use Rattle.shared_world.proofs.Live.{going, no-unit, state-there, unfinished}
 use Rattle.shared_world.proofs.ActorPieces.{actor_of_piece, same-pieces-actors}
 use Rattle.shared_world.proofs.Standing.{same-states}
@@ -57,7 +59,7 @@ unit-gave old st on_going u not_done found new g = unit-keeps old st u g.unit he
 
     tries : (attempt : Option Attempt) → named u old.attempts ≡ attempt → (body : NodeId) (values : List Value) (at : Spot) → next_of old.setup (unit_state g.unit) ≡ halt.Ask (request.Dosync body values) at
         → Tries old u g.unit body values at attempt found new → Stands new
-    tries None is body values at asks t = begins old st u g.unit here.going here.there here.unfinished body values at asks is found new t
+    tries None is body values at asks t = begins old st u g.unit here.going here.there here.unfinished (mark.Waiting (wait.Finish (next_made u (unit_state g.unit)))) body values at asks is found new t
     tries (Some tree) is body values at asks t = absurd t
 
 -- what an attempt comes to whose root is at its end
@@ -100,3 +102,5 @@ gave-keeps old new r found st (gave.stale none is same) = unclaimed-keeps r.tick
 gave-keeps old new r found st (gave.unit name live g) = unit-gave old st (going old r name live) name (λ x there. unfinished old r name x live there) found new g
 gave-keeps old new r found st (gave.task name live g) = task-gave old st (going old r name live) name found new g
 gave-keeps old new r found st (gave.actor name live g) = actor-gave old st (going old r name live) name found new g
+gave-keeps old new r found st (gave.lead name live g) = lead-keeps old new name r.work found st (going old r name live) g
+gave-keeps old new r found st (gave.tentative name live g) = begun-keeps old st (going old r name live) name found new g

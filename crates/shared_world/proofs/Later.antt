@@ -1,7 +1,8 @@
 -- What a result comes to is later than what was there.
 use Rattle.std.proofs.Common.{ap}
 use Rattle.serial_model.specs.Step.{next_of}
-use Rattle.shared_world.proofs.Appends.{actor-gives, stays, task-gives, unit-gives}
+use Rattle.shared_world.proofs.Appends.{actor-gives, led-appends, stays, task-gives, unit-gives}
+use Rattle.shared_world.proofs.LeadsDo.{lead-led, tentative-led}
 use Rattle.shared_world.specs.declared.given.Given.{Given}
 use Rattle.shared_world.specs.Gave as gave
 use Rattle.shared_world.specs.Gave.{Gave, GaveTask, GaveUnit}
@@ -27,6 +28,8 @@ gave-appends old new r found (gave.stale none is unclaimed) = stays old new foun
 gave-appends old new r found (gave.unit name live g) = gave-unit-appends old name found new g
 gave-appends old new r found (gave.task name live g) = gave-task-appends old name found new g
 gave-appends old new r found (gave.actor name live g) = gave-actor-appends old name found new g
+gave-appends old new r found (gave.lead name live g) = led-appends old found new (lead-led old name r.work found new g)
+gave-appends old new r found (gave.tentative name live g) = led-appends old found new (tentative-led old name found new g)
 
 -- what appends is later
 pub appends-later : (found : Given) (old new : Shared) → Appends (settled_by found) old new → IsLater old new

@@ -1,45 +1,35 @@
 -- What a turn comes to that runs ahead keeps what is kept standing.
-use Rattle.std.proofs.Common.{◌≡◌, ◌∙◌, ◌≤◌, ◌⊎◌, ◌==◌, ℕ, suc, Bool, true, false, cond, append-nil, length, length-append, le_refl, List, [], ◌∷◌, ◌++◌, inl, inr, refl, sym, ap, ap₂, subst, arith}
+use Rattle.std.proofs.Common.{◌≡◌, ◌∙◌, ◌≤◌, ◌⊎◌, suc, Bool, true, false, cond, append-nil, length, length-append, le_refl, List, [], ◌∷◌, ◌++◌, inl, inr, refl, sym, ap, ap₂, subst, arith}
 use Rattle.std.specs.Option.{option_and_then, option_map}
-use Rattle.std.specs.Prelude.{◌||◌, Option, None, Some, drop, is_some, map}
+use Rattle.std.specs.Prelude.{Option, None, Some, drop, is_some, map}
 use Rattle.actor_mailbox.specs.declared.message.Message.{Message}
-use Rattle.actor_mailbox.specs.Messages.{definite as definite_of, passes}
-use Rattle.actor_mails.specs.Mails.{Mail, SameMail, mail_at}
-use Rattle.core_syntax.specs.declared.node_id.NodeId.{NodeId}
-use Rattle.eval_step.specs.Evaluation.{Evaluation}
-use Rattle.ref_store.proofs.StoreLaws.{above_committed, read_below}
-use Rattle.ref_store.specs.Store.{IsAbove, committed}
+use Rattle.actor_mails.specs.Mails.{mail_at}
+use Rattle.ref_store.specs.Store.{IsAbove}
 use Rattle.serial_model.specs.declared.actor_state.ActorState.{ActorState}
-use Rattle.serial_model.specs.declared.end.End.TheVariants as ending
 use Rattle.serial_model.specs.declared.entry.Entry.{Entry}
-use Rattle.serial_model.specs.declared.entry.Entry.TheVariants.{Run, Take}
 use Rattle.serial_model.specs.declared.halt.Halt.TheVariants as halt
 use Rattle.serial_model.specs.declared.request.Request.{Request}
 use Rattle.serial_model.specs.declared.request.Request.TheVariants as request
 use Rattle.serial_model.specs.Sends.{sends_to}
-use Rattle.serial_model.specs.State.{UnitState, new_unit}
-use Rattle.serial_model.specs.Step.{idle, next_made, next_of}
-use Rattle.shared_world.proofs.ActorPieces.{SameActors, actor-no-unit, actor-put, actor_of_piece, actors-put, not-same, roused-actor, same-pieces-actors, unit-no-actor}
-use Rattle.shared_world.proofs.Leading.{ahead-still, asks-no-attempt, none-leads, none-tried, seen-here, seen-same}
-use Rattle.shared_world.proofs.Lefts.{IsFirstHeld, after-finished, after-longer, first-held, left-still, no-dosync}
-use Rattle.shared_world.proofs.Live.{no-piece, state-there}
-use Rattle.shared_world.proofs.Standing.{Grows, above-next, ended, one-version, stands-next}
-use Rattle.shared_world.proofs.States.{EachMachine, SameStates, machines-put, machines-same, roused-unit, same-pieces, states-put, unit-put}
+use Rattle.serial_model.specs.State.{UnitState}
+use Rattle.serial_model.specs.Step.{next_of}
+use Rattle.shared_world.proofs.ActorPieces.{SameActors, actor_of_piece, actors-put, not-same, roused-same, same-pieces-actors, unit-no-actor}
+use Rattle.shared_world.proofs.Leading.{ahead-still, asks-no-attempt, none-tried}
+use Rattle.shared_world.proofs.Lefts.{after-finished, after-longer, left-still, no-dosync}
+use Rattle.shared_world.proofs.Live.{state-there}
+use Rattle.shared_world.proofs.Standing.{Grows, stands-next}
+use Rattle.shared_world.proofs.States.{EachMachine, SameStates, machines-put, machines-same, roused-is, roused-state, same-pieces, states-put, unit-put}
 use Rattle.shared_world.specs.Ahead.{Ahead}
 use Rattle.shared_world.specs.declared.given.Given.{Given}
 use Rattle.shared_world.specs.rows.Leading as lead
-use Rattle.shared_world.specs.rows.Actors.{actor_mark, actor_with}
-use Rattle.shared_world.specs.rows.Leading.{ForksHeld, HoldsOn, IsChanged, LeadHolds, LeadSettles, Puts, SendsAhead, SendsHeld, SettlesBegin, SpawnsHeld, TakeSettles, TakeSettlesIfAllowed, WaitsDefinite, beside_left, kept_of_turn, leads_on, left_after, mark_settles, roused_unless, settles_unless}
-use Rattle.shared_world.specs.Seen.{left_at, live_at, live_with, one_or_none}
-use Rattle.shared_world.specs.Shared.{Shared, finished_at, finished_by, is_going, ref_now, state_at, unit_state}
+use Rattle.shared_world.specs.rows.Actors.{roused_unless}
+use Rattle.shared_world.specs.rows.Leading.{HoldsOn, IsChanged, LeadHolds, LeadSettles, Puts, SendsAhead, WaitsDefinite, beside_left, kept_of_turn, leads_on}
+use Rattle.shared_world.specs.Seen.{left_at, live_with, one_or_none}
+use Rattle.shared_world.specs.Shared.{Shared, finished_at, is_going, ref_now, state_at, unit_state}
 use Rattle.shared_world.specs.Stands.{IsAheadAt, IsMachine, Stands}
 use Rattle.task_fork_join.specs.Attempt.{Attempt}
 use Rattle.txn_snapshot.specs.SnapshotAnswer.{snapshot_of}
-use Rattle.unit_table.specs.Board.{Board, IsPutAt, actor_at, lent_at, piece_at, unit_at}
-use Rattle.unit_table.specs.declared.mark.Mark.{Mark}
-use Rattle.unit_table.specs.declared.mark.Mark.TheVariants as mark
-use Rattle.unit_table.specs.declared.mark.WaitOn.TheVariants as wait
-use Rattle.unit_table.specs.declared.mark.Work.TheVariants as work
+use Rattle.unit_table.specs.Board.{Board, IsPutAt, actor_at, piece_at, unit_at}
 use Rattle.unit_table.specs.declared.piece.Actor.{Actor}
 use Rattle.unit_table.specs.declared.piece.Piece.{Piece}
 use Rattle.unit_table.specs.declared.piece.Piece.TheVariants as piece
@@ -47,19 +37,15 @@ use Rattle.unit_table.specs.declared.unit.Unit.{Unit}
 use Rattle.unit_table.specs.Piece.{unit_in}
 use Rattle.value_core.proofs.NamedLaws.{same_name-equal, same_name-itself}
 use Rattle.value_core.specs.declared.value.Value.{Value}
-use Rattle.value_core.specs.Named.{Name, Named, made_by, named, same_name}
+use Rattle.value_core.specs.Named.{Name, Named, named, same_name}
 use Rattle.value_core.specs.Place.{Spot}
 use Rattle.world_model.proofs.Kept.{gave-keeps}
-use Rattle.world_model.specs.Ahead.{RunsAhead, ahead}
+use Rattle.world_model.specs.Ahead.{RunsAhead}
 use Rattle.world_model.specs.Gave as row
-use Rattle.world_model.specs.Gave.{Gave}
 use Rattle.world_model.specs.IsWorld.{IsWorld}
-use Rattle.world_model.specs.rows.Effects.{HoldsMore, SettlesHeld, effect_settled, fork_settled, held_more, held_rest, mails_held, new_live, print_settled, has_put, ref_settled, send_settled, settled_mail, settled_taken, spawn_settled, with_held}
-use Rattle.world_model.specs.rows.Endings as end_row
-use Rattle.world_model.specs.rows.Endings.{ended_by}
-use Rattle.world_model.specs.rows.Turns.{SettlesTake, begun_turn, busy_with, take_settled}
+use Rattle.world_model.specs.rows.Effects.{held_more, mails_held, with_held}
 use Rattle.world_model.specs.StandsFor.{LiveStands, UnitStands}
-use Rattle.world_model.specs.Message.{settle_or_put, settled, tentative, unsettled}
+use Rattle.world_model.specs.Message.{tentative, unsettled}
 use Rattle.world_model.specs.World.{LiveUnit, World, attempt_sends, held_sends, is_ahead, is_empty, is_some as is_there, kept_sends, put_last, with_at}
 
 -- requests that are asked for at once are the same
@@ -72,17 +58,23 @@ ahead-more (Some a) held r from now = refl
 ahead-more None [] r from now = refl
 ahead-more None (k ∷ ks) r from now = refl
 
--- whoever is roused or not is the same to the meaning
-pub roused-is : (c : Bool) (found : Option Piece) → option_and_then unit_in (roused_unless c found) ≡ option_and_then unit_in found
-roused-is true found = refl
-roused-is false found = roused-unit found
+pub beside-unit : (u : Name) (o : Option Ahead) (p : Option Piece) → option_and_then unit_in (beside_left u o p) ≡ option_and_then unit_in p
+beside-unit u (Some k) p = refl
+beside-unit u None None = refl
+beside-unit u None (Some (piece.Unit y)) = refl
+beside-unit u None (Some (piece.Task m)) = refl
+beside-unit u None (Some (piece.Actor a)) = refl
 
-pub roused-state : (c : Bool) (found : Option Piece) → option_map unit_state (option_and_then unit_in (roused_unless c found)) ≡ option_map unit_state (option_and_then unit_in found)
-roused-state c found = ap (option_map unit_state) (roused-is c found)
+-- the meaning sees the pieces beside a turn as it did, whether or not that runs ahead still
+beside-state : (u : Name) (o : Option Ahead) (p : Option Piece) → option_map unit_state (option_and_then unit_in (beside_left u o p)) ≡ option_map unit_state (option_and_then unit_in p)
+beside-state u o p = ap (option_map unit_state) (beside-unit u o p)
 
-pub roused-same : (c : Bool) (found : Option Piece) → actor_of_piece (roused_unless c found) ≡ actor_of_piece found
-roused-same true found = refl
-roused-same false found = roused-actor found
+pub beside-actor : (u : Name) (o : Option Ahead) (p : Option Piece) → actor_of_piece (beside_left u o p) ≡ actor_of_piece p
+beside-actor u (Some k) p = refl
+beside-actor u None None = refl
+beside-actor u None (Some (piece.Unit y)) = refl
+beside-actor u None (Some (piece.Task m)) = refl
+beside-actor u None (Some (piece.Actor a)) = refl
 
 -- a turn that runs ahead, with the run of it going on
 module _ (old : Shared) (st : Stands old) (on_going : old.end ≡ None) (u : Name) (x : Unit) (there : unit_at old.board u ≡ Some x) (h : Ahead) (leads : named u old.aheads ≡ Some h) where
@@ -374,41 +366,19 @@ module _ (old : Shared) (st : Stands old) (on_going : old.end ≡ None) (u : Nam
     pub holds : (k : Ahead) → leads_on left ≡ Some k → is_ahead (live_with (Some k) unit) ≡ true
 
   module _ (base : Shared) (entry : Entry) (left : Ahead) (w2 : World) (is : IsBase base entry left w2) (found : Given) (new : Shared) (g : LeadSettles base u x left entry found new) where
-    -- the meaning sees the pieces as it did
-    beside-state : (o : Option Ahead) (p : Option Piece) → option_map unit_state (option_and_then unit_in (beside_left u o p)) ≡ option_map unit_state (option_and_then unit_in p)
-    beside-state (Some k) p = refl
-    beside-state None None = refl
-    beside-state None (Some (piece.Unit y)) = refl
-    beside-state None (Some (piece.Task m)) = refl
-    beside-state None (Some (piece.Actor a)) = refl
-
-    beside-unit : (o : Option Ahead) (p : Option Piece) → option_and_then unit_in (beside_left u o p) ≡ option_and_then unit_in p
-    beside-unit (Some k) p = refl
-    beside-unit None None = refl
-    beside-unit None (Some (piece.Unit y)) = refl
-    beside-unit None (Some (piece.Task m)) = refl
-    beside-unit None (Some (piece.Actor a)) = refl
-
-    beside-actor : (o : Option Ahead) (p : Option Piece) → actor_of_piece (beside_left u o p) ≡ actor_of_piece p
-    beside-actor (Some k) p = refl
-    beside-actor None None = refl
-    beside-actor None (Some (piece.Unit y)) = refl
-    beside-actor None (Some (piece.Task m)) = refl
-    beside-actor None (Some (piece.Actor a)) = refl
-
     state-so : (q : Name) → state_at new.board q ≡ state_at base.board q
     state-so q = on (same_name q u) refl
       where
         on : (c : Bool) → same_name q u ≡ c → state_at new.board q ≡ state_at base.board q
         on true e = ap (state_at new.board) (same_name-equal q u e) ∙ ap (λ p. option_map unit_state (option_and_then unit_in p)) g.here ∙ ap (λ k. Some k) g.stands.state ∙ sym (ap (state_at base.board) (same_name-equal q u e) ∙ is.stay u unit kept)
-        on false e = ap (λ p. option_map unit_state (option_and_then unit_in p)) (g.beside q (not-same q u e)) ∙ beside-state (leads_on left) (piece_at base.board q)
+        on false e = ap (λ p. option_map unit_state (option_and_then unit_in p)) (g.beside q (not-same q u e)) ∙ beside-state u (leads_on left) (piece_at base.board q)
 
     actor-so : (q : Name) → actor_at new.board q ≡ actor_at base.board q
     actor-so q = on (same_name q u) refl
       where
         on : (c : Bool) → same_name q u ≡ c → actor_at new.board q ≡ actor_at base.board q
         on true e = ap (actor_at new.board) (same_name-equal q u e) ∙ ap actor_of_piece g.here ∙ sym (ap (actor_at base.board) (same_name-equal q u e) ∙ unit-no-actor base.board u unit (is.stay u unit kept))
-        on false e = ap actor_of_piece (g.beside q (not-same q u e)) ∙ beside-actor (leads_on left) (piece_at base.board q)
+        on false e = ap actor_of_piece (g.beside q (not-same q u e)) ∙ beside-actor u (leads_on left) (piece_at base.board q)
 
     machine-so : EachMachine (IsMachine old.setup) new.board
     machine-so q z at = on (same_name q u) refl
@@ -417,7 +387,7 @@ module _ (old : Shared) (st : Stands old) (on_going : old.end ≡ None) (u : Nam
         on true e =
             let both : Some g.unit ≡ Some z = sym (ap (unit_at new.board) (same_name-equal q u e) ∙ ap (option_and_then unit_in) g.here) ∙ at in
             let same : g.unit ≡ z = cc in subst (λ (k : Unit). IsMachine old.setup k.machine) same (subst (λ of. IsMachine of g.unit.machine) is.setup g.stands.machine)
-        on false e = is.machines q z (sym (ap (option_and_then unit_in) (g.beside q (not-same q u e)) ∙ beside-unit (leads_on left) (piece_at base.board q)) ∙ at)
+        on false e = is.machines q z (sym (ap (option_and_then unit_in) (g.beside q (not-same q u e)) ∙ beside-unit u (leads_on left) (piece_at base.board q)) ∙ at)
 
     stays-so : (q : Name) (k : UnitState) → state_at old.board q ≡ Some k → state_at new.board q ≡ Some k
     stays-so q k at = state-so q ∙ is.stay q k at

@@ -1,10 +1,9 @@
 -- What settles of a turn that runs ahead keeps what is kept standing: its begin, or the first request that it holds.
-use Rattle.std.proofs.Common.{◌≡◌, ◌∙◌, ◌≤◌, ◌⊎◌, ◌==◌, ℕ, suc, Bool, true, false, cond, append-nil, length, length-append, le_refl, List, [], ◌∷◌, ◌++◌, inl, inr, refl, sym, ap, ap₂, subst, arith}
+use Rattle.std.proofs.Common.{◌≡◌, ◌∙◌, ◌≤◌, ◌==◌, ℕ, suc, Bool, true, false, cond, length, List, [], ◌∷◌, ◌++◌, refl, sym, ap, ap₂, subst, arith}
 use Rattle.std.specs.Option.{option_and_then, option_map}
-use Rattle.std.specs.Prelude.{◌||◌, Option, None, Some, drop, is_some, map}
-use Rattle.actor_mailbox.specs.declared.message.Message.{Message}
+use Rattle.std.specs.Prelude.{◌||◌, Option, None, Some, is_some}
 use Rattle.actor_mailbox.specs.Messages.{definite as definite_of, passes}
-use Rattle.actor_mails.specs.Mails.{Mail, SameMail, mail_at}
+use Rattle.actor_mails.specs.Mails.{mail_at}
 use Rattle.core_syntax.specs.declared.node_id.NodeId.{NodeId}
 use Rattle.eval_step.specs.Evaluation.{Evaluation}
 use Rattle.ref_store.proofs.StoreLaws.{above_committed, read_below}
@@ -13,33 +12,30 @@ use Rattle.serial_model.specs.declared.actor_state.ActorState.{ActorState}
 use Rattle.serial_model.specs.declared.end.End.TheVariants as ending
 use Rattle.serial_model.specs.declared.entry.Entry.{Entry}
 use Rattle.serial_model.specs.declared.entry.Entry.TheVariants.{Run, Take}
-use Rattle.serial_model.specs.declared.halt.Halt.TheVariants as halt
 use Rattle.serial_model.specs.declared.request.Request.{Request}
 use Rattle.serial_model.specs.declared.request.Request.TheVariants as request
-use Rattle.serial_model.specs.Sends.{sends_to}
 use Rattle.serial_model.specs.State.{UnitState, new_unit}
-use Rattle.serial_model.specs.Step.{idle, next_made, next_of}
-use Rattle.shared_world.proofs.ActorPieces.{SameActors, actor-no-unit, actor-put, actor_of_piece, actors-put, not-same, roused-actor, same-pieces-actors, unit-no-actor}
-use Rattle.shared_world.proofs.Leading.{ahead-still, asks-no-attempt, none-leads, none-tried, seen-here, seen-same}
-use Rattle.shared_world.proofs.Lefts.{IsFirstHeld, after-finished, after-longer, first-held, left-still, no-dosync}
-use Rattle.shared_world.proofs.Live.{no-piece, state-there}
-use Rattle.shared_world.proofs.Standing.{Grows, above-next, ended, one-version, stands-next}
-use Rattle.shared_world.proofs.States.{EachMachine, SameStates, machines-put, machines-same, roused-unit, same-pieces, states-put, unit-put}
+use Rattle.serial_model.specs.Step.{idle, next_made}
+use Rattle.shared_world.proofs.ActorPieces.{SameActors, actor-no-unit, actor-put, actor_of_piece, actors-put, not-same, roused-same}
+use Rattle.shared_world.proofs.Leading.{none-leads, seen-here, seen-same}
+use Rattle.shared_world.proofs.Lefts.{IsFirstHeld, first-held}
+use Rattle.shared_world.proofs.Live.{no-piece}
+use Rattle.shared_world.proofs.Standing.{above-next, ended, one-version}
+use Rattle.shared_world.proofs.States.{EachMachine, SameStates, machines-put, roused-is, roused-state, states-put, unit-put}
 use Rattle.shared_world.specs.Ahead.{Ahead}
 use Rattle.shared_world.specs.declared.given.Given.{Given}
 use Rattle.shared_world.specs.rows.Pieces.{Ends}
 use Rattle.shared_world.specs.rows.Leading as lead
-use Rattle.shared_world.specs.rows.Actors.{actor_mark, actor_with}
-use Rattle.shared_world.specs.rows.Leading.{ForksHeld, HoldsOn, IsChanged, LeadHolds, LeadSettles, Puts, SendsAhead, SendsHeld, SettlesBegin, SpawnsHeld, TakeSettles, TakeSettlesIfAllowed, WaitsDefinite, beside_left, kept_of_turn, leads_on, left_after, mark_settles, roused_unless, settles_unless}
-use Rattle.shared_world.specs.Seen.{left_at, live_at, live_with, one_or_none}
-use Rattle.shared_world.specs.Shared.{Shared, finished_at, finished_by, is_going, ref_now, state_at, unit_state}
-use Rattle.shared_world.specs.Stands.{IsAheadAt, IsMachine, Stands}
+use Rattle.shared_world.specs.rows.Actors.{actor_mark, actor_with, roused_unless}
+use Rattle.shared_world.specs.rows.Leading.{ForksHeld, SendsHeld, SettlesBegin, SpawnsHeld, TakeSettles, TakeSettlesIfAllowed, leads_on, left_after, mark_settles, settles_now}
+use Rattle.shared_world.specs.Seen.{left_at, live_with, one_or_none}
+use Rattle.shared_world.specs.Shared.{Shared, finished_by, is_going, ref_now, state_at, unit_state}
+use Rattle.shared_world.specs.Stands.{IsMachine, Stands}
 use Rattle.task_fork_join.specs.Attempt.{Attempt}
 use Rattle.txn_snapshot.specs.SnapshotAnswer.{snapshot_of}
-use Rattle.unit_table.specs.Board.{Board, IsPutAt, actor_at, lent_at, piece_at, unit_at}
+use Rattle.unit_table.specs.Board.{actor_at, lent_at, piece_at, unit_at}
 use Rattle.unit_table.specs.declared.mark.Mark.{Mark}
 use Rattle.unit_table.specs.declared.mark.Mark.TheVariants as mark
-use Rattle.unit_table.specs.declared.mark.WaitOn.TheVariants as wait
 use Rattle.unit_table.specs.declared.mark.Work.TheVariants as work
 use Rattle.unit_table.specs.declared.piece.Actor.{Actor}
 use Rattle.unit_table.specs.declared.piece.Piece.{Piece}
@@ -48,53 +44,50 @@ use Rattle.unit_table.specs.declared.unit.Unit.{Unit}
 use Rattle.unit_table.specs.Piece.{unit_in}
 use Rattle.value_core.proofs.NamedLaws.{same_name-equal, same_name-itself}
 use Rattle.value_core.specs.declared.value.Value.{Value}
-use Rattle.value_core.specs.Named.{Name, Named, made_by, named, same_name}
-use Rattle.value_core.specs.Place.{Spot}
+use Rattle.value_core.specs.Named.{Name, made_by, named, same_name}
 use Rattle.world_model.proofs.Kept.{gave-keeps}
-use Rattle.world_model.specs.Ahead.{RunsAhead, ahead}
+use Rattle.world_model.specs.Ahead.{RunsAhead}
 use Rattle.world_model.specs.Gave as row
 use Rattle.world_model.specs.Gave.{Gave}
 use Rattle.world_model.specs.IsWorld.{IsWorld}
-use Rattle.world_model.specs.rows.Effects.{HoldsMore, SettlesHeld, effect_settled, fork_settled, held_more, held_rest, mails_held, new_live, print_settled, has_put, ref_settled, send_settled, settled_mail, settled_taken, spawn_settled, with_held}
+use Rattle.world_model.specs.rows.Effects.{SettlesHeld, effect_settled, fork_settled, held_rest, new_live, print_settled, has_put, ref_settled, send_settled, settled_mail, settled_taken, spawn_settled}
 use Rattle.world_model.specs.rows.Endings as end_row
 use Rattle.world_model.specs.rows.Endings.{ended_by}
 use Rattle.world_model.specs.rows.Turns.{SettlesTake, begun_turn, busy_with, take_settled}
-use Rattle.world_model.specs.StandsFor.{LiveStands, UnitStands}
-use Rattle.world_model.specs.Message.{settle_or_put, settled, tentative, unsettled}
-use Rattle.world_model.specs.World.{LiveUnit, World, attempt_sends, held_sends, is_ahead, is_empty, is_some as is_there, kept_sends, put_last, with_at}
-use Rattle.shared_world.proofs.Leads.{IsBase as IsBaseOf, kept as kept-of, lead-settles as settles-of, live-is as live-of, roused-is, roused-same, roused-state, runs as runs-of, within as within-of}
+use Rattle.world_model.specs.Message.{settle_or_put, settled}
+use Rattle.world_model.specs.World.{LiveUnit, World, is_ahead, with_at}
+use Rattle.shared_world.proofs.Leads.{IsBase as IsBaseOf, lead-settles as settles-of, live-is as live-of, runs as runs-of, within as within-of}
 
 -- whether a mark says that a unit is finished does not change where it is ready to settle
-settles-mark : (m : Mark) → finished_by (mark_settles m) ≡ finished_by m
-settles-mark (mark.Ready work.Eval) = refl
-settles-mark (mark.Ready work.Settle) = refl
-settles-mark (mark.Ready work.Begin) = refl
-settles-mark (mark.Waiting (wait.Finish f)) = refl
-settles-mark (mark.Waiting (wait.Definite t)) = refl
-settles-mark mark.Resting = refl
-settles-mark (mark.Finished v) = refl
-settles-mark mark.Dropped = refl
+settles-mark : (lent : Bool) (m : Mark) → finished_by (mark_settles lent m) ≡ finished_by m
+settles-mark true (mark.Ready work.Eval) = refl
+settles-mark false (mark.Ready work.Eval) = refl
+settles-mark true (mark.Ready work.Settle) = refl
+settles-mark false (mark.Ready work.Settle) = refl
+settles-mark true (mark.Ready work.Begin) = refl
+settles-mark false (mark.Ready work.Begin) = refl
+settles-mark lent (mark.Waiting on) = refl
+settles-mark lent mark.Resting = refl
+settles-mark lent (mark.Finished v) = refl
+settles-mark lent mark.Dropped = refl
 
-same-unit : (c : Bool) (found : Option Piece) → option_map unit_state (option_and_then unit_in (settles_unless c found)) ≡ option_map unit_state (option_and_then unit_in found)
-same-unit true found = refl
-same-unit false None = refl
-same-unit false (Some (piece.Unit x)) = ap (λ o. Some (record (unit_state x) { finished = o })) (settles-mark x.mark)
-same-unit false (Some (piece.Task m)) = refl
-same-unit false (Some (piece.Actor a)) = refl
+pub same-unit : (lent : Bool) (found : Option Piece) → option_map unit_state (option_and_then unit_in (option_map (settles_now lent) found)) ≡ option_map unit_state (option_and_then unit_in found)
+same-unit lent None = refl
+same-unit lent (Some (piece.Unit x)) = ap (λ o. Some (record (unit_state x) { finished = o })) (settles-mark lent x.mark)
+same-unit lent (Some (piece.Task m)) = refl
+same-unit lent (Some (piece.Actor a)) = refl
 
-same-actor : (c : Bool) (found : Option Piece) → actor_of_piece (settles_unless c found) ≡ actor_of_piece found
-same-actor true found = refl
-same-actor false None = refl
-same-actor false (Some (piece.Unit x)) = refl
-same-actor false (Some (piece.Task m)) = refl
-same-actor false (Some (piece.Actor a)) = refl
+same-actor : (lent : Bool) (found : Option Piece) → actor_of_piece (option_map (settles_now lent) found) ≡ actor_of_piece found
+same-actor lent None = refl
+same-actor lent (Some (piece.Unit x)) = refl
+same-actor lent (Some (piece.Task m)) = refl
+same-actor lent (Some (piece.Actor a)) = refl
 
-machine-of : (P : Evaluation → Type 0) (c : Bool) (found : Option Piece) (z : Unit) → option_and_then unit_in (settles_unless c found) ≡ Some z → ((y : Unit) → option_and_then unit_in found ≡ Some y → P y.machine) → P z.machine
-machine-of P true found z e all = all z e
-machine-of P false None z e all = cc
-machine-of P false (Some (piece.Unit x)) z e all = let same : record x { mark = mark_settles x.mark } ≡ z = cc in subst (λ (k : Unit). P k.machine) same (all x refl)
-machine-of P false (Some (piece.Task m)) z e all = cc
-machine-of P false (Some (piece.Actor a)) z e all = cc
+machine-of : (P : Evaluation → Type 0) (lent : Bool) (found : Option Piece) (z : Unit) → option_and_then unit_in (option_map (settles_now lent) found) ≡ Some z → ((y : Unit) → option_and_then unit_in found ≡ Some y → P y.machine) → P z.machine
+machine-of P lent None z e all = cc
+machine-of P lent (Some (piece.Unit x)) z e all = let same : record x { mark = mark_settles lent x.mark } ≡ z = cc in subst (λ (k : Unit). P k.machine) same (all x refl)
+machine-of P lent (Some (piece.Task m)) z e all = cc
+machine-of P lent (Some (piece.Actor a)) z e all = cc
 
 module _ (old : Shared) (st : Stands old) (on_going : old.end ≡ None) (u : Name) (x : Unit) (there : unit_at old.board u ≡ Some x) (h : Ahead) (leads : named u old.aheads ≡ Some h) where
   abbrev w : World
@@ -472,7 +465,7 @@ module _ (old : Shared) (st : Stands old) (on_going : old.end ≡ None) (u : Nam
           lent = is_some (lent_at old.board turn)
 
           now : Option Piece
-          now = settles_unless lent (piece_at old.board turn)
+          now = option_map (settles_now lent) (piece_at old.board turn)
 
           is_taken : w.taken to ≡ m ∷ []
           is_taken = st.seen.taken to ∙ ap one_or_none took

@@ -1,7 +1,6 @@
 -- Whatever a turn that runs ahead comes to, what is kept stands.
 use Rattle.std.proofs.Common.{◌≡◌, ◌==◌, Bool, true, false, List, [], ◌∷◌, refl}
 use Rattle.std.specs.Prelude.{Option, None, Some, ◌&&◌}
-use Rattle.core_syntax.specs.declared.node_id.NodeId.{NodeId}
 use Rattle.serial_model.specs.declared.halt.Halt.{Halt}
 use Rattle.serial_model.specs.declared.halt.Halt.TheVariants as halt
 use Rattle.serial_model.specs.declared.request.Request.{Request}
@@ -21,7 +20,6 @@ use Rattle.unit_table.specs.declared.mark.Work.{Work}
 use Rattle.unit_table.specs.declared.unit.Unit.{Unit}
 use Rattle.value_core.specs.declared.value.Value.{Value}
 use Rattle.value_core.specs.Named.{Name, named}
-use Rattle.value_core.specs.Place.{Spot}
 
 module _ (old : Shared) (st : Stands old) (on_going : old.end ≡ None) (u : Name) (x : Unit) (there : unit_at old.board u ≡ Some x) (h : Ahead) (leads : named u old.aheads ≡ Some h) (found : Given) (new : Shared) where
   first-keeps : (r : Request) (rest : List Request) → h.takes ≡ None → h.held ≡ r ∷ rest → FirstSettles old u x h r rest found new → Stands new
@@ -50,8 +48,8 @@ module _ (old : Shared) (st : Stands old) (on_going : old.end ≡ None) (u : Nam
   goes-keeps : (halted : Halt) → next_of old.setup (unit_state x) ≡ halted → LeadGoes old u x h halted found new → Stands new
   goes-keeps (halt.Ask (request.Dosync body values) at) asks g = tries (named u old.attempts) refl g
     where
-      tries : (attempt : Option Attempt) → named u old.attempts ≡ attempt → LeadTries old u x body values at attempt found new → Stands new
-      tries None none r = begins old st u x on_going (kept old st on_going u x there h leads) (unfinished old st on_going u x there h leads) body values at asks none found new r
+      tries : (attempt : Option Attempt) → named u old.attempts ≡ attempt → LeadTries old u x h body values at attempt found new → Stands new
+      tries None none r = begins old st u x on_going (kept old st on_going u x there h leads) (unfinished old st on_going u x there h leads) _ body values at asks none found new r
       tries (Some tree) is r = absurd r
   goes-keeps (halt.Ask (request.Deref ref) at) asks g = waits-definite old st on_going u x there h leads found new g
   goes-keeps (halt.Ask (request.RefSet ref v) at) asks g = waits-definite old st on_going u x there h leads found new g

@@ -63,33 +63,19 @@ after-more u unit r after is = on (answer_ahead unit.actor (next_made u unit) r)
         same e = cc
     on (Some (answer.Fault failed)) e = cc
 
--- a request is done without an answer more or less
-same-answers : (unit : UnitState) (r : Request) → (unit_after unit r).answers ≡ unit.answers
-same-answers unit (request.Print text) = refl
-same-answers unit (request.NewRef v) = refl
-same-answers unit (request.Deref ref) = refl
-same-answers unit (request.RefSet ref v) = refl
-same-answers unit (request.Fork body values) = refl
-same-answers unit (request.Join future) = refl
-same-answers unit (request.Dosync body values) = refl
-same-answers unit (request.Spawn behaviour state) = refl
-same-answers unit (request.Send to args) = refl
-same-answers unit (request.Become behaviour state) = refl
-same-answers unit request.SelfActor = refl
-
--- nor does it finish the unit
-same-finished : (unit : UnitState) (r : Request) → (unit_after unit r).finished ≡ unit.finished
-same-finished unit (request.Print text) = refl
-same-finished unit (request.NewRef v) = refl
-same-finished unit (request.Deref ref) = refl
-same-finished unit (request.RefSet ref v) = refl
-same-finished unit (request.Fork body values) = refl
-same-finished unit (request.Join future) = refl
-same-finished unit (request.Dosync body values) = refl
-same-finished unit (request.Spawn behaviour state) = refl
-same-finished unit (request.Send to args) = refl
-same-finished unit (request.Become behaviour state) = refl
-same-finished unit request.SelfActor = refl
+-- a request is done without an answer more or less, and finishes no unit
+same-course : (unit : UnitState) (r : Request) → ((unit_after unit r).answers ≡ unit.answers) × ((unit_after unit r).finished ≡ unit.finished)
+same-course unit (request.Print text) = (refl, refl)
+same-course unit (request.NewRef v) = (refl, refl)
+same-course unit (request.Deref ref) = (refl, refl)
+same-course unit (request.RefSet ref v) = (refl, refl)
+same-course unit (request.Fork body values) = (refl, refl)
+same-course unit (request.Join future) = (refl, refl)
+same-course unit (request.Dosync body values) = (refl, refl)
+same-course unit (request.Spawn behaviour state) = (refl, refl)
+same-course unit (request.Send to args) = (refl, refl)
+same-course unit (request.Become behaviour state) = (refl, refl)
+same-course unit request.SelfActor = (refl, refl)
 
 runs-more : (setup : Setup) (u : Name) (from now : UnitState) (held : List Request) → RunsAhead setup u from held now → HasMore from now
 runs-more setup u from now [] same = record { more = []; answers = ap (λ (k : UnitState). k.answers) (sym same) ∙ sym (append-nil from.answers) }
@@ -100,7 +86,7 @@ runs-more setup u from now (r ∷ rs) runs =
       more = answer.Value given.0 ∷ rest.more;
       answers =
           rest.answers
-          ∙ ap (λ gs. gs ++ rest.more) (ap (λ (k : UnitState). k.answers) given.1 ∙ ap (λ gs. gs ++ answer.Value given.0 ∷ []) (same-answers from r))
+          ∙ ap (λ gs. gs ++ rest.more) (ap (λ (k : UnitState). k.answers) given.1 ∙ ap (λ gs. gs ++ answer.Value given.0 ∷ []) (same-course from r).0)
           ∙ append_assoc from.answers (answer.Value given.0 ∷ []) rest.more;
     }
 
@@ -137,7 +123,7 @@ first-held setup u h unit r rest runs =
     let behind = runs-more setup u runs.1 unit rest runs.3 in
     let whole : take h.answers unit.answers ++ answer.Value given.0 ∷ behind.more ≡ unit.answers =
     sym (behind.answers
-    ∙ ap (λ gs. gs ++ behind.more) (ap (λ (k : UnitState). k.answers) given.1 ∙ ap (λ gs. gs ++ answer.Value given.0 ∷ []) (same-answers (left_at h unit) r))
+    ∙ ap (λ gs. gs ++ behind.more) (ap (λ (k : UnitState). k.answers) given.1 ∙ ap (λ gs. gs ++ answer.Value given.0 ∷ []) (same-course (left_at h unit) r).0)
     ∙ append_assoc (take h.answers unit.answers) (answer.Value given.0 ∷ []) behind.more) in
     let same = one-left h unit r rest given.0 (take-one h.answers unit.answers (answer.Value given.0) behind.more whole) in
     record {
@@ -152,7 +138,7 @@ pub left-still : (h : Ahead) (unit after : UnitState) (u : Name) (r : Request) (
 left-still h unit after u r held within gives =
     let given = after-more u unit r after gives in
     ap (left_at h) given.1
-    ∙ ap (λ gs. record (left_at h (answered (unit_after unit r) given.0)) { answers = gs }) (ap (λ gs. take h.answers (gs ++ answer.Value given.0 ∷ [])) (same-answers unit r) ∙ take-front h.answers unit.answers (answer.Value given.0 ∷ []) within)
+    ∙ ap (λ gs. record (left_at h (answered (unit_after unit r) given.0)) { answers = gs }) (ap (λ gs. take h.answers (gs ++ answer.Value given.0 ∷ [])) (same-course unit r).0 ∙ take-front h.answers unit.answers (answer.Value given.0 ∷ []) within)
     ∙ on r
   where
     on : (r : Request) → record (left_at h (unit_after unit r)) { answers = take h.answers unit.answers } ≡ left_at h unit
@@ -170,12 +156,12 @@ left-still h unit after u r held within gives =
 
 -- it is finished as before, and has no fewer answers
 pub after-finished : (u : Name) (unit : UnitState) (r : Request) (after : UnitState) → ahead u unit r ≡ Some after → after.finished ≡ unit.finished
-after-finished u unit r after gives = let given = after-more u unit r after gives in ap (λ (k : UnitState). k.finished) given.1 ∙ same-finished unit r
+after-finished u unit r after gives = let given = after-more u unit r after gives in ap (λ (k : UnitState). k.finished) given.1 ∙ (same-course unit r).1
 
 pub after-longer : (u : Name) (unit : UnitState) (r : Request) (after : UnitState) (n : ℕ) → ahead u unit r ≡ Some after → n ≤ length unit.answers → n ≤ length after.answers
 after-longer u unit r after n gives within =
     let given = after-more u unit r after gives in
-    let whole = ap (λ (k : UnitState). length k.answers) given.1 ∙ ap (λ gs. length (gs ++ answer.Value given.0 ∷ [])) (same-answers unit r) in
+    let whole = ap (λ (k : UnitState). length k.answers) given.1 ∙ ap (λ gs. length (gs ++ answer.Value given.0 ∷ [])) (same-course unit r).0 in
     let long = length-append unit.answers (answer.Value given.0 ∷ []) in
     omega (arith, whole, long, within)
 

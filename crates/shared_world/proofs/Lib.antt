@@ -11,13 +11,16 @@ pub mod Later
 pub mod Leading
 pub mod Leads
 pub mod LeadsBegin
+pub mod LeadsDo
 pub mod LeadsFirst
 pub mod LeadsKeep
 pub mod Lefts
 pub mod Lists
 pub mod Live
 pub mod MarkedActors
+pub mod MarkedAheads
 pub mod MarkedGone
+pub mod MarkedLeads
 pub mod MarkedSteps
 pub mod MarkedTasks
 pub mod MarkedTurns
@@ -32,6 +35,7 @@ pub mod Spreads
 pub mod Standing
 pub mod States
 pub mod Steps
+pub mod Takings
 pub mod Turns
 pub mod Units
 pub mod Unsettled

@@ -9,6 +9,7 @@ use Rattle.serial_model.specs.State.{Setup, main_name}
 use Rattle.serial_model.specs.Step.{next_of}
 use Rattle.shared_world.proofs.Besides.{apart-of}
 use Rattle.shared_world.proofs.Live.{going, state-there, unfinished}
+use Rattle.shared_world.proofs.MarkedAheads.{marked-lead, marked-tentative}
 use Rattle.shared_world.proofs.MarkedTasks.{marked-task}
 use Rattle.shared_world.proofs.MarkedTurns.{marked-turn}
 use Rattle.shared_world.proofs.MarkedUnits.{marked-unit}
@@ -21,7 +22,7 @@ use Rattle.shared_world.specs.HeldUp.{IsHeldUp}
 use Rattle.shared_world.specs.Marks.{AreMarked, HasMarks, IsTaskPiece, TaskSays, UnitSays}
 use Rattle.shared_world.specs.Opening.{IsOpening}
 use Rattle.shared_world.specs.Returned.{Returned}
-use Rattle.shared_world.specs.rows.Actors.{actor_mark}
+use Rattle.shared_world.specs.rows.Actors.{actor_mark, has_turn}
 use Rattle.shared_world.specs.Shared.{Shared, is_going, ready, unit_state}
 use Rattle.shared_world.specs.Stands.{Stands}
 use Rattle.task_fork_join.specs.Attempt.{end_at}
@@ -49,6 +50,8 @@ gave-marks old new r found st marks (gave.unit name live g) on_going = marked-un
     unended = going old r name live
 gave-marks old new r found st marks (gave.task name live g) on_going = let unended = going old r name live in marked-task old st (marks (ap is_going unended)) unended name found new on_going g
 gave-marks old new r found st marks (gave.actor name live g) on_going = let so = ap is_going (going old r name live) in marked-turn old st (marks so) so name found new g on_going
+gave-marks old new r found st marks (gave.lead name live g) on_going = let unended = going old r name live in marked-lead old st (marks (ap is_going unended)) unended name r.work found new on_going g
+gave-marks old new r found st marks (gave.tentative name live g) on_going = let so = ap is_going (going old r name live) in marked-tentative old st (marks so) so name found new g
 
 -- main alone can go on, and nothing else is there
 pub opening-marks : (setup : Setup) (s : Shared) → IsOpening setup s → HasMarks s
@@ -95,7 +98,7 @@ others-are-ready s name p marks on_going there not_ready = by (lent_at s.board n
     unit : (x : Doing) (m : Mark) → p ≡ piece.Unit x → x.mark ≡ m → says_ready m ≡ false → UnitSays s name x m → IsHeldUp s name p
     unit x (mark.Ready w) is e not_so says = cc
     unit x (mark.Waiting (wait.Finish f)) is e not_so says = held.unit x f is says
-    unit x (mark.Waiting (wait.Definite t)) is e not_so says = absurd says
+    unit x (mark.Waiting (wait.Definite t)) is e not_so says = held.tentative x is says.1
     unit x mark.Resting is e not_so says = absurd says
     unit x (mark.Finished v) is e not_so says = held.finished v (ap mark_in is ∙ e)
     unit x mark.Dropped is e not_so says = absurd says
@@ -108,7 +111,7 @@ others-are-ready s name p marks on_going there not_ready = by (lent_at s.board n
     task (mark.Finished v) is not_so piece says = held.finished v (ap mark_in is)
     task mark.Dropped is not_so piece says = absurd says
 
-    actor : (a : Actor) (busy : Bool) (mail : List Message) → p ≡ piece.Actor a → a.state.busy ≡ busy → mail_at s.mails name ≡ mail → says_ready (actor_mark busy mail) ≡ false → IsHeldUp s name p
+    actor : (a : Actor) (busy : Bool) (mail : List Message) → p ≡ piece.Actor a → has_turn s.taken name a.state ≡ busy → mail_at s.mails name ≡ mail → says_ready (actor_mark busy mail) ≡ false → IsHeldUp s name p
     actor a true mail is busy here not_so = held.busy a is busy
     actor a false [] is busy here not_so = held.no_mail a is here
     actor a false (m ∷ ms) is busy here not_so = cc
@@ -123,7 +126,7 @@ others-are-ready s name p marks on_going there not_ready = by (lent_at s.board n
         by-end : (o : Option TaskEnd) → end_at of.tree ≡ o → IsHeldUp s name p
         by-end None e = task m is not_so of (of.says e)
         by-end (Some ended) e = held.over m of is (λ unended. let no : None ≡ Some ended = sym unended ∙ e in cc)
-    on (piece.Actor a) is not_so at = actor a a.state.busy (mail_at s.mails name) is refl refl (sym (ap says_ready (marked.actors name a at)) ∙ not_so)
+    on (piece.Actor a) is not_so at = actor a (has_turn s.taken name a.state) (mail_at s.mails name) is refl refl (sym (ap says_ready (marked.actors name a at)) ∙ not_so)
 
     by : (o : Option Ticket) → lent_at s.board name ≡ o → IsHeldUp s name p
     by (Some claim) e = held.lent claim e

@@ -1,17 +1,17 @@
 -- How the marks stay right where actors are made, roused and freed.
-use Rattle.std.proofs.Common.{◌≡◌, ◌∙◌, Bool, true, false, List, [], ◌∷◌, ◌++◌, append-nil, refl, sym, ap, subst}
-use Rattle.std.specs.Option.{option_map}
-use Rattle.std.specs.Prelude.{Option, None, Some, map}
+use Rattle.std.proofs.Common.{◌≡◌, ◌∙◌, Bool, true, false, List, [], ◌∷◌, ◌++◌, append-nil, refl, sym, ap, ap₂, subst}
+use Rattle.std.specs.Prelude.{◌||◌, Option, None, Some, is_some, map}
 use Rattle.actor_mailbox.specs.declared.message.Message.{Message}
-use Rattle.actor_mails.specs.Mails.{Mail, IsMailed, SameMailBut, mail_at}
+use Rattle.actor_mails.specs.Mails.{Mail, SameMailBut, mail_at}
 use Rattle.serial_model.specs.declared.actor_state.ActorState.{ActorState}
 use Rattle.serial_model.specs.declared.effect.Effect.{Effect}
 use Rattle.serial_model.specs.Sends.{effects_to}
 use Rattle.shared_world.proofs.Besides.{apart-of}
-use Rattle.shared_world.proofs.Marks.{IsSameButActors, but_actor, marked-actors}
+use Rattle.shared_world.proofs.Marks.{IsSameButActors, but_actor, marked-actors, same-settles}
 use Rattle.shared_world.specs.Marks.{AreMarked}
-use Rattle.shared_world.specs.rows.Actors.{acted, actor_mark, actor_with, mark_roused, roused, spawned}
+use Rattle.shared_world.specs.rows.Actors.{acted, actor_mark, actor_with, has_turn, mark_roused, roused_unless, spawned}
 use Rattle.shared_world.specs.rows.Attempts.{ActorsAct}
+use Rattle.shared_world.specs.rows.Leading.{can_settle}
 use Rattle.shared_world.specs.Shared.{Shared}
 use Rattle.unit_table.specs.Board.{Board, IsPutAt, piece_at}
 use Rattle.unit_table.specs.declared.piece.Actor.{Actor}
@@ -23,61 +23,86 @@ use Rattle.value_core.specs.Named.{Name, named, same_name}
 use Rattle.world_model.specs.Message.{settled}
 
 -- the mark of an actor that stands there is that of the one that was put
-pub put-mark : (x z : Actor) (mail : List Message) → Some (piece.Actor x) ≡ Some (piece.Actor z) → x.mark ≡ actor_mark x.state.busy mail → z.mark ≡ actor_mark z.state.busy mail
-put-mark x z mail e right = let same : x ≡ z = cc in subst (λ (k : Actor). k.mark ≡ actor_mark k.state.busy mail) same right
+pub put-mark : (begun : Bool) (x z : Actor) (mail : List Message) → Some (piece.Actor x) ≡ Some (piece.Actor z) → x.mark ≡ actor_mark (begun || x.state.busy) mail → z.mark ≡ actor_mark (begun || z.state.busy) mail
+put-mark begun x z mail e right = let same : x ≡ z = cc in subst (λ (k : Actor). k.mark ≡ actor_mark (begun || k.state.busy) mail) same right
 
--- with a message more an actor is roused
-roused-mark : (busy : Bool) (mail : List Message) (m : Message) (ms : List Message) → mark_roused busy (actor_mark busy mail) ≡ actor_mark busy (mail ++ m ∷ ms)
-roused-mark true mail m ms = refl
-roused-mark false [] m ms = refl
-roused-mark false (first ∷ rest) m ms = refl
+-- once it has mail an actor is roused
+roused-mark : (busy : Bool) (before mail : List Message) → (mail ≡ [] → ⊥) → mark_roused busy (actor_mark busy before) ≡ actor_mark busy mail
+roused-mark true before mail some = refl
+roused-mark false before [] some = absurd (some refl)
+roused-mark false [] (m ∷ ms) some = refl
+roused-mark false (first ∷ rest) (m ∷ ms) some = refl
 
-roused-but : (found : Option Piece) → but_actor (option_map roused found) ≡ but_actor found
-roused-but None = refl
-roused-but (Some (piece.Unit x)) = refl
-roused-but (Some (piece.Task m)) = refl
-roused-but (Some (piece.Actor a)) = refl
+-- the mark of an actor that was roused, unless a turn of it is begun, is right once it has mail
+pub rouses-right : (begun : Bool) (before mail : List Message) (found : Option Piece) (z : Actor) → ((x : Actor) → found ≡ Some (piece.Actor x) → x.mark ≡ actor_mark (begun || x.state.busy) before)
+    → (mail ≡ [] → ⊥) → roused_unless begun found ≡ Some (piece.Actor z) → z.mark ≡ actor_mark (begun || z.state.busy) mail
+rouses-right true before mail found z right some e = right z e
+rouses-right false before mail None z right some e = cc
+rouses-right false before mail (Some (piece.Unit x)) z right some e = cc
+rouses-right false before mail (Some (piece.Task m)) z right some e = cc
+rouses-right false before mail (Some (piece.Actor x)) z right some e = put-mark false (record x { mark = mark_roused x.state.busy x.mark }) z mail e
+    (ap (mark_roused x.state.busy) (right x refl) ∙ roused-mark x.state.busy before mail some)
+
+-- with a message behind it no mail is empty
+pub has-last : (before : List Message) (m : Message) (ms : List Message) → before ++ m ∷ ms ≡ [] → ⊥
+has-last [] m ms e = cc
+has-last (first ∷ rest) m ms e = cc
+
+pub roused-but : (begun : Bool) (found : Option Piece) → but_actor (roused_unless begun found) ≡ but_actor found
+roused-but true found = refl
+roused-but false None = refl
+roused-but false (Some (piece.Unit x)) = refl
+roused-but false (Some (piece.Task m)) = refl
+roused-but false (Some (piece.Actor a)) = refl
 
 -- where an actor is made nothing stood; elsewhere a unit and a task stay
-acted-but : (made : Option ActorState) (sent : List (List Value)) (mail : List Message) (found : Option Piece) → ((state : ActorState) → made ≡ Some state → but_actor found ≡ None) → but_actor (acted made sent mail found) ≡ but_actor found
-acted-but (Some state) sent mail found none = sym (none state refl)
-acted-but None [] mail found none = refl
-acted-but None (args ∷ more) mail found none = roused-but found
+acted-but : (begun : Bool) (made : Option ActorState) (sent : List (List Value)) (mail : List Message) (found : Option Piece) → ((state : ActorState) → made ≡ Some state → but_actor found ≡ None)
+    → but_actor (acted begun made sent mail found) ≡ but_actor found
+acted-but begun (Some state) sent mail found none = sym (none state refl)
+acted-but begun None [] mail found none = refl
+acted-but begun None (args ∷ more) mail found none = roused-but begun found
 
--- the mark of an actor that was roused by what was sent
-sent-mark : (u : Name) (args : List Value) (more : List (List Value)) (before mail : List Message) (found : Option Piece) (z : Actor) → ((x : Actor) → found ≡ Some (piece.Actor x) → x.mark ≡ actor_mark x.state.busy before)
-    → mail ≡ before ++ map (settled u) (args ∷ more) → option_map roused found ≡ Some (piece.Actor z) → z.mark ≡ actor_mark z.state.busy mail
-sent-mark u args more before mail None z right is e = cc
-sent-mark u args more before mail (Some (piece.Unit x)) z right is e = cc
-sent-mark u args more before mail (Some (piece.Task m)) z right is e = cc
-sent-mark u args more before mail (Some (piece.Actor x)) z right is e = put-mark (record x { mark = mark_roused x.state.busy x.mark }) z mail e
-    (ap (mark_roused x.state.busy) (right x refl) ∙ roused-mark x.state.busy before (settled u args) (map (settled u) more) ∙ ap (actor_mark x.state.busy) (sym is))
+-- the mark of an actor that was made, or roused by what was sent
+acted-mark : (u : Name) (begun : Bool) (made : Option ActorState) (sent : List (List Value)) (before mail : List Message) (found : Option Piece) (z : Actor) → ((x : Actor) → found ≡ Some (piece.Actor x) → x.mark ≡ actor_mark (begun || x.state.busy) before)
+    → ((state : ActorState) → made ≡ Some state → begun ≡ false) → mail ≡ before ++ map (settled u) sent → acted begun made sent mail found ≡ Some (piece.Actor z) → z.mark ≡ actor_mark (begun || z.state.busy) mail
+acted-mark u begun (Some state) sent before mail found z right fresh is e = put-mark begun (record { state = state; mark = actor_mark state.busy mail }) z mail e (ap (λ b. actor_mark (b || state.busy) mail) (sym (fresh state refl)))
+acted-mark u begun None [] before mail found z right fresh is e = right z e ∙ ap (actor_mark (begun || z.state.busy)) (sym (append-nil before) ∙ sym is)
+acted-mark u begun None (args ∷ more) before mail found z right fresh is e = rouses-right begun before mail found z right (λ none. has-last before (settled u args) (map (settled u) more) (sym is ∙ none)) e
 
-acted-mark : (u : Name) (made : Option ActorState) (sent : List (List Value)) (before mail : List Message) (found : Option Piece) (z : Actor) → ((x : Actor) → found ≡ Some (piece.Actor x) → x.mark ≡ actor_mark x.state.busy before)
-    → mail ≡ before ++ map (settled u) sent → acted made sent mail found ≡ Some (piece.Actor z) → z.mark ≡ actor_mark z.state.busy mail
-acted-mark u (Some state) sent before mail found z right is e = put-mark (record { state = state; mark = actor_mark state.busy mail }) z mail e refl
-acted-mark u None [] before mail found z right is e = right z e ∙ ap (actor_mark z.state.busy) (sym (append-nil before) ∙ sym is)
-acted-mark u None (args ∷ more) before mail found z right is e = sent-mark u args more before mail found z right is e
+-- no message is taken of an actor that is not there
+abbrev pub NoneTaken : Shared → Type 0
+NoneTaken s = (a : Name) → piece_at s.board a ≡ None → named a s.taken ≡ None
 
 -- What the effects of a transaction do to actors: all else is the same to the marks.
-pub acts-marked : (u : Name) (effects : List Effect) (base s new : Shared) → AreMarked s → new.setup ≡ s.setup → new.attempts ≡ s.attempts → new.owners ≡ s.owners → ActorsAct effects base s.board new
-    → ((a : Name) → piece_at base.board a ≡ None → piece_at s.board a ≡ None) → ((a : Name) → mail_at new.mails a ≡ mail_at s.mails a ++ map (settled u) (effects_to a effects)) → AreMarked new
-acts-marked u effects base s new marked setup attempts owners acts none mails = marked-actors s new (record {
+pub acts-marked : (u : Name) (effects : List Effect) (base s new : Shared) → AreMarked s → new.setup ≡ s.setup → new.attempts ≡ s.attempts → new.owners ≡ s.owners → new.aheads ≡ s.aheads → new.taken ≡ s.taken → s.taken ≡ base.taken
+    → ActorsAct effects base s.board new → ((a : Name) → piece_at base.board a ≡ None → piece_at s.board a ≡ None) → NoneTaken base → ((a : Name) → mail_at new.mails a ≡ mail_at s.mails a ++ map (settled u) (effects_to a effects)) → AreMarked new
+acts-marked u effects base s new marked setup attempts owners aheads taken same acts none none_taken mails = marked-actors s new (record {
   setup = setup;
   attempts = λ v. ap (named v) attempts;
   owners = owners;
-  pieces = λ n. ap but_actor (acts.pieces n) ∙ acted-but (spawned effects n) (effects_to n effects) (mail_at new.mails n) (piece_at s.board n) (λ state made. ap but_actor (none n (acts.none n state made)));
-  actors = λ a z there. acted-mark u (spawned effects a) (effects_to a effects) (mail_at s.mails a) (mail_at new.mails a) (piece_at s.board a) z (marked.actors a) (mails a) (sym (acts.pieces a) ∙ there);
+  aheads = aheads;
+  settles = λ v. same-settles s new v (ap (named v) aheads) taken;
+  pieces = λ n. ap but_actor (acts.pieces n) ∙ acted-but (begun n) (spawned effects n) (effects_to n effects) (mail_at new.mails n) (piece_at s.board n) (λ state made. ap but_actor (none n (acts.none n state made)));
+  actors = λ a z there.
+      acted-mark u (begun a) (spawned effects a) (effects_to a effects) (mail_at s.mails a) (mail_at new.mails a) (piece_at s.board a) z
+      (λ x at. marked.actors a x at ∙ ap (λ t. actor_mark (has_turn t a x.state) (mail_at s.mails a)) same) (λ state made. ap is_some (none_taken a (acts.none a state made))) (mails a) (sym (acts.pieces a) ∙ there)
+      ∙ ap (λ t. actor_mark (has_turn t a z.state) (mail_at new.mails a)) (sym (taken ∙ same));
 }) marked
+  where
+    begun : Name → Bool
+    begun a = is_some (named a base.taken)
 
 -- What stands under that name is the same to the marks, but where it is an actor, whose mark is right; and everything else stays.
 pub record IsActorPut (a : Name) (now : Option Piece) (old new : Shared) : Type 0 where
   pub setup : new.setup ≡ old.setup
   pub attempts : new.attempts ≡ old.attempts
   pub owners : new.owners ≡ old.owners
+  pub aheads : new.aheads ≡ old.aheads
+  pub settles : (v : Name) → can_settle new v ≡ can_settle old v
   pub put : IsPutAt a now old.board new.board
   pub but : but_actor now ≡ but_actor (piece_at old.board a)
-  pub right : (x : Actor) → now ≡ Some (piece.Actor x) → x.mark ≡ actor_mark x.state.busy (mail_at new.mails a)
+  pub right : (x : Actor) → now ≡ Some (piece.Actor x) → x.mark ≡ actor_mark (has_turn new.taken a x.state) (mail_at new.mails a)
+  pub taken : (b : Name) → (b ≡ a → ⊥) → named b new.taken ≡ named b old.taken
   pub mails : SameMailBut a old.mails new.mails
 
 module _ (a : Name) (now : Option Piece) (old new : Shared) (is : IsActorPut a now old new) (marked : AreMarked old) where
@@ -85,41 +110,54 @@ module _ (a : Name) (now : Option Piece) (old new : Shared) (is : IsActorPut a n
   pieces n true e = ap but_actor (ap (piece_at new.board) (same_name-equal n a e) ∙ is.put.here) ∙ is.but ∙ ap (λ q. but_actor (piece_at old.board q)) (sym (same_name-equal n a e))
   pieces n false e = ap but_actor (is.put.others n (apart-of n a e))
 
-  actors : (b : Name) (x : Actor) (c : Bool) → same_name b a ≡ c → piece_at new.board b ≡ Some (piece.Actor x) → x.mark ≡ actor_mark x.state.busy (mail_at new.mails b)
-  actors b x true e there = is.right x (sym is.put.here ∙ ap (piece_at new.board) (sym (same_name-equal b a e)) ∙ there) ∙ ap (λ q. actor_mark x.state.busy (mail_at new.mails q)) (sym (same_name-equal b a e))
-  actors b x false e there = marked.actors b x (sym (is.put.others b (apart-of b a e)) ∙ there) ∙ ap (actor_mark x.state.busy) (sym (is.mails b (apart-of b a e)))
+  actors : (b : Name) (x : Actor) (c : Bool) → same_name b a ≡ c → piece_at new.board b ≡ Some (piece.Actor x) → x.mark ≡ actor_mark (has_turn new.taken b x.state) (mail_at new.mails b)
+  actors b x true e there = is.right x (sym is.put.here ∙ ap (piece_at new.board) (sym (same_name-equal b a e)) ∙ there) ∙ ap (λ q. actor_mark (has_turn new.taken q x.state) (mail_at new.mails q)) (sym (same_name-equal b a e))
+  actors b x false e there =
+      marked.actors b x (sym (is.put.others b (apart-of b a e)) ∙ there)
+      ∙ sym (ap₂ (λ found mail. actor_mark (is_some found || x.state.busy) mail) (is.taken b (apart-of b a e)) (is.mails b (apart-of b a e)))
 
   pub actor-put : IsSameButActors old new
   actor-put = record {
     setup = is.setup;
     attempts = λ v. ap (named v) is.attempts;
     owners = is.owners;
+    aheads = is.aheads;
+    settles = is.settles;
     pieces = λ n. pieces n (same_name n a) refl;
     actors = λ b x there. actors b x (same_name b a) refl there;
   }
 
--- an actor is there with the mark that its state and its mail say, where nothing stood but an actor
-pub actor-placed : (old : Shared) → AreMarked old → (a : Name) (state : ActorState) (board : Board) → but_actor (piece_at old.board a) ≡ None → IsPutAt a (Some (actor_with state (mail_at old.mails a))) old.board board
-    → IsSameButActors old (record old { board = board })
-actor-placed old marked a state board none put = actor-put a (Some (actor_with state (mail_at old.mails a))) old (record old { board = board }) (record {
+-- an actor is there with the mark that its state and its mail say, where nothing stood but an actor of which no message is taken
+pub actor-placed : (old : Shared) → AreMarked old → (a : Name) (state : ActorState) (board : Board) → but_actor (piece_at old.board a) ≡ None → named a old.taken ≡ None
+    → IsPutAt a (Some (actor_with state (mail_at old.mails a))) old.board board → IsSameButActors old (record old { board = board })
+actor-placed old marked a state board none free put = actor-put a (Some (actor_with state (mail_at old.mails a))) old (record old { board = board }) (record {
   setup = refl;
   attempts = refl;
   owners = refl;
+  aheads = refl;
+  settles = λ v. refl;
   put = put;
   but = sym none;
-  right = λ x e. put-mark (record { state = state; mark = actor_mark state.busy (mail_at old.mails a) }) x (mail_at old.mails a) e refl;
+  right = λ x e. put-mark (is_some (named a old.taken)) (record { state = state; mark = actor_mark state.busy (mail_at old.mails a) }) x (mail_at old.mails a) e (ap (λ found. actor_mark (is_some found || state.busy) (mail_at old.mails a)) (sym free));
+  taken = λ b other. refl;
   mails = λ b other. refl;
 }) marked
 
--- an actor to which a message was sent is roused
-pub actor-sent : (old : Shared) → AreMarked old → (u to : Name) (args : List Value) (mails : Mail) (board : Board) → IsMailed to (mail_at old.mails to ++ settled u args ∷ []) old.mails mails → IsPutAt to (option_map roused (piece_at old.board to)) old.board board
+-- an actor that has mail now is roused
+pub actor-sent : (old : Shared) → AreMarked old → (to : Name) (mails : Mail) (board : Board) → (mail_at mails to ≡ [] → ⊥) → SameMailBut to old.mails mails → IsPutAt to (roused_unless (is_some (named to old.taken)) (piece_at old.board to)) old.board board
     → IsSameButActors old (record old { board = board; mails = mails })
-actor-sent old marked u to args mails board mailed put = actor-put to (option_map roused (piece_at old.board to)) old (record old { board = board; mails = mails }) (record {
+actor-sent old marked to mails board some others put = actor-put to (roused_unless begun (piece_at old.board to)) old (record old { board = board; mails = mails }) (record {
   setup = refl;
   attempts = refl;
   owners = refl;
+  aheads = refl;
+  settles = λ v. refl;
   put = put;
-  but = roused-but (piece_at old.board to);
-  right = λ x e. sent-mark u args [] (mail_at old.mails to) (mail_at mails to) (piece_at old.board to) x (marked.actors to) mailed.here e;
-  mails = mailed.others;
+  but = roused-but begun (piece_at old.board to);
+  right = λ x e. rouses-right begun (mail_at old.mails to) (mail_at mails to) (piece_at old.board to) x (marked.actors to) some e;
+  taken = λ b other. refl;
+  mails = others;
 }) marked
+  where
+    begun : Bool
+    begun = is_some (named to old.taken)

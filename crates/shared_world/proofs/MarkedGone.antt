@@ -1,14 +1,14 @@
 -- How the marks stay right where an attempt is gone.
-use Rattle.std.proofs.Common.{◌≡◌, ◌∙◌, ◌⊎◌, Bool, true, false, cond, inl, inr, refl, sym, ap, subst}
+use Rattle.std.proofs.Common.{◌≡◌, ◌∙◌, ◌⊎◌, Bool, true, false, cond, inl, inr, refl, sym, ap, ap₂, subst}
 use Rattle.std.specs.Option.{option_and_then, option_map}
 use Rattle.std.specs.Prelude.{Option, None, Some, is_some}
 use Rattle.actor_mails.specs.Mails.{SameMail}
 use Rattle.serial_model.specs.State.{UnitState}
 use Rattle.shared_world.proofs.Besides.{apart-of}
 use Rattle.shared_world.proofs.Live.{unit-piece}
-use Rattle.shared_world.proofs.Marks.{ActorsAreMarked, SameRoot, come-again, same-root, task-again, unit-again}
+use Rattle.shared_world.proofs.Marks.{ActorsAreMarked, IsStill, come-again, same-root, same-settles, SameRoot, task-again, unit-again}
 use Rattle.shared_world.specs.Marks.{AreMarked, HasPiece, IsTaskPiece, UnitSays}
-use Rattle.shared_world.specs.rows.Actors.{actor_mark}
+use Rattle.shared_world.specs.rows.Actors.{actor_mark, has_turn}
 use Rattle.shared_world.specs.rows.Attempts.{TasksGo}
 use Rattle.shared_world.specs.rows.Pieces.{task_gone}
 use Rattle.shared_world.specs.Shared.{Shared, finished_at, finished_by, unit_state}
@@ -29,6 +29,8 @@ use Rattle.value_core.specs.Named.{Name, named, same_name}
 pub record IsGone (old : Shared) (u : Name) (y : Doing) (tree after : Attempt) (new : Shared) : Type 0 where
   pub setup : new.setup ≡ old.setup
   pub owners : new.owners ≡ old.owners
+  pub aheads : new.aheads ≡ old.aheads
+  pub taken : new.taken ≡ old.taken
   pub attempts : (v : Name) → named v new.attempts ≡ cond (same_name v u) None (named v old.attempts)
   pub tasks : TasksGo u y after old.board new.board
   pub mails : SameMail old.mails new.mails
@@ -59,15 +61,19 @@ module _ (old new : Shared) (marked : AreMarked old) (u : Name) (x y : Doing) (t
       on true e = ap (finished_at new.board) (same_name-equal f u e) ∙ ap finished-by-piece is.tasks.here ∙ is.unfinished
       on false e = ap finished-by-piece (is-other f (apart-of f u e)) ∙ same-finished (piece_at old.board f) (is_some (named f after.tasks)) ∙ none
 
-  roots : (v : Name) → same_name v u ≡ false → SameRoot (named v old.attempts) (named v new.attempts)
-  roots v e = subst (λ o. SameRoot (named v old.attempts) o) (sym (is.attempts v ∙ ap (λ c. cond c None (named v old.attempts)) e)) (same-root (named v old.attempts))
+  still : (v : Name) → same_name v u ≡ false → IsStill old new v
+  still v e = record {
+    root = subst (λ o. SameRoot (named v old.attempts) o) (sym (is.attempts v ∙ ap (λ c. cond c None (named v old.attempts)) e)) (same-root (named v old.attempts));
+    ahead = ap (named v) is.aheads;
+    settles = same-settles old new v (ap (named v) is.aheads) is.taken;
+  }
 
   units : (v : Name) (z : Doing) (c : Bool) → same_name v u ≡ c → unit_at new.board v ≡ Some z → UnitSays new v z z.mark
   units v z true e at =
       let both : Some y ≡ Some z = sym (ap (unit_at new.board) (same_name-equal v u e) ∙ ap (option_and_then unit_in) is.tasks.here) ∙ at in
       let same : y ≡ z = cc in
       subst (λ q. UnitSays new q z z.mark) (sym (same_name-equal v u e)) (subst (λ (k : Doing). UnitSays new u k k.mark) same is.says)
-  units v z false e at = unit-again old new v z z.mark is.setup (roots v e) (λ f waits. over f) (marked.units v z (left (piece_at old.board v) (is_some (named v after.tasks)) (sym (ap (option_and_then unit_in) (is-other v (apart-of v u e))) ∙ at)))
+  units v z false e at = unit-again old new v z z.mark is.setup (still v e) (λ f waits. over f) (marked.units v z (left (piece_at old.board v) (is_some (named v after.tasks)) (sym (ap (option_and_then unit_in) (is-other v (apart-of v u e))) ∙ at)))
     where
       left : (found : Option Piece) (c : Bool) → option_and_then unit_in (cond c (task_gone found) found) ≡ Some z → option_and_then unit_in found ≡ Some z
       left found false e = e
@@ -126,8 +132,8 @@ module _ (old new : Shared) (marked : AreMarked old) (u : Name) (x y : Doing) (t
         says = λ unended. task-again old.board new.board before.tree.tasks before.tree.tasks before.task m (λ f waits. come-again old.board new.board before.tree.tasks before.task f (over f)) (before.says unended);
       }
 
-  actors : ActorsAreMarked new.board new.mails
-  actors a z at = marked.actors a z (left (piece_at old.board a) (is_some (named a after.tasks)) (sym (is-other a other) ∙ at)) ∙ ap (actor_mark z.state.busy) (sym (is.mails a))
+  actors : ActorsAreMarked new
+  actors a z at = marked.actors a z (left (piece_at old.board a) (is_some (named a after.tasks)) (sym (is-other a other) ∙ at)) ∙ sym (ap₂ (λ taken mail. actor_mark (has_turn taken a z.state) mail) is.taken (is.mails a))
     where
       other : a ≡ u → ⊥
       other same = let no : Some (piece.Unit y) ≡ Some (piece.Actor z) = sym is.tasks.here ∙ ap (piece_at new.board) (sym same) ∙ at in cc

@@ -1,16 +1,16 @@
 -- How the marks stay right where a task takes a step.
-use Rattle.std.proofs.Common.{◌≡◌, ◌∙◌, ◌⊎◌, Bool, true, false, cond, inl, inr, refl, sym, ap, subst}
+use Rattle.std.proofs.Common.{◌≡◌, ◌∙◌, ◌⊎◌, Bool, true, false, cond, inl, inr, refl, sym, ap, ap₂, subst}
 use Rattle.std.specs.Option.{option_and_then, option_map}
 use Rattle.std.specs.Prelude.{Option, None, Some, if◌then◌else◌}
 use Rattle.actor_mails.specs.Mails.{SameMail, mail_at}
 use Rattle.serial_model.specs.declared.halt.Halt.{Halt}
 use Rattle.serial_model.specs.State.{UnitState}
 use Rattle.shared_world.proofs.Besides.{apart-of}
-use Rattle.shared_world.proofs.Marks.{ActorsAreMarked, AreMarkedBut, IsTaskPieceBut, SameRoot, come-again, same-root, task-again, unit-again}
+use Rattle.shared_world.proofs.Marks.{ActorsAreMarked, AreMarkedBut, IsStill, IsTaskPieceBut, come-again, same-root, same-settles, SameRoot, task-again, unit-again}
 use Rattle.task_fork_join.proofs.StepShapes.{IsAfter, IsShaped}
 use Rattle.shared_world.specs.Marks as marks
 use Rattle.shared_world.specs.Marks.{AreMarked, HasPiece, IsTaskPiece, IsToCome, TaskSays, UnitSays}
-use Rattle.shared_world.specs.rows.Actors.{actor_mark}
+use Rattle.shared_world.specs.rows.Actors.{actor_mark, has_turn}
 use Rattle.shared_world.specs.Shared.{Shared, finished_at, unit_state}
 use Rattle.task_fork_join.specs.Attempt.{Attempt, end_at}
 use Rattle.task_fork_join.specs.declared.stepped.Stepped.{Stepped}
@@ -58,6 +58,8 @@ pub record IsWithChild (old : Shared) (u : Name) (went : Stepped) (new : Shared)
   pub pieces : (n : Name) → piece_at new.board n ≡ cond (forks_it went n) (Some (piece.Task (mark.Ready work.Eval))) (piece_at old.board n)
   pub owners : (n : Name) → named n new.owners ≡ cond (forks_it went n) (Some u) (named n old.owners)
   pub none : (n : Name) → forks_it went n ≡ true → piece_at old.board n ≡ None
+  pub aheads : new.aheads ≡ old.aheads
+  pub taken : new.taken ≡ old.taken
   pub mails : SameMail old.mails new.mails
 
 module _ (old new : Shared) (marked : AreMarked old) (u task : Name) (tree after : Attempt) (there : named u old.attempts ≡ Some tree) (before : end_at tree ≡ None) (outer : Option Value) (h : Halt) (went : Stepped)
@@ -98,12 +100,15 @@ module _ (old new : Shared) (marked : AreMarked old) (u task : Name) (tree after
       on true e = subst (λ o. SameRoot o (Some after)) (sym (ap (λ q. named q old.attempts) (same_name-equal v u e) ∙ there)) root
       on false e = same-root (named v old.attempts)
 
+  still : (v : Name) → IsStill old new v
+  still v = record { root = roots v; ahead = ap (named v) child.aheads; settles = same-settles old new v (ap (named v) child.aheads) child.taken }
+
   units : (v : Name) (x : Doing) → unit_at new.board v ≡ Some x → UnitSays new v x x.mark
   units v x at = on (forks_it went v) refl
     where
       on : (c : Bool) → forks_it went v ≡ c → UnitSays new v x x.mark
       on true e = let no : None ≡ Some x = sym (ap (option_and_then unit_in) (piece-new v e)) ∙ at in cc
-      on false e = unit-again old new v x x.mark child.setup (roots v) (λ f waits none. over f none) (marked.units v x (sym (ap (option_and_then unit_in) (piece-stays v e)) ∙ at))
+      on false e = unit-again old new v x x.mark child.setup (still v) (λ f waits none. over f none) (marked.units v x (sym (ap (option_and_then unit_in) (piece-stays v e)) ∙ at))
 
   -- the task goes on, unless the step ends it
   goes-on : (w : Stepped) → went ≡ w → says_ended w ≡ false → IsGoing shape.after.stage
@@ -196,12 +201,12 @@ module _ (old new : Shared) (marked : AreMarked old) (u task : Name) (tree after
   tasks n m true e other at = begun-piece n m other e at
   tasks n m false e other at = old-piece n m other e (marked.tasks n m (sym (piece-stays n e) ∙ at))
 
-  actors : ActorsAreMarked new.board new.mails
+  actors : ActorsAreMarked new
   actors a z at = on (forks_it went a) refl
     where
-      on : (c : Bool) → forks_it went a ≡ c → z.mark ≡ actor_mark z.state.busy (mail_at new.mails a)
+      on : (c : Bool) → forks_it went a ≡ c → z.mark ≡ actor_mark (has_turn new.taken a z.state) (mail_at new.mails a)
       on true e = let no : Some (piece.Task (mark.Ready work.Eval)) ≡ Some (piece.Actor z) = sym (piece-new a e) ∙ at in cc
-      on false e = marked.actors a z (sym (piece-stays a e) ∙ at) ∙ ap (actor_mark z.state.busy) (sym (child.mails a))
+      on false e = marked.actors a z (sym (piece-stays a e) ∙ at) ∙ sym (ap₂ (λ taken mail. actor_mark (has_turn taken a z.state) mail) child.taken (child.mails a))
 
   -- a task of an attempt that was a piece
   kept-piece : (v n : Name) → HasPiece old v n → HasPiece new v n

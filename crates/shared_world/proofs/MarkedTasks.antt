@@ -11,14 +11,16 @@ use Rattle.serial_model.specs.declared.halt.Halt.{Halt}
 use Rattle.serial_model.specs.declared.halt.Halt.TheVariants as halt
 use Rattle.serial_model.specs.declared.request.Request.TheVariants as request
 use Rattle.serial_model.specs.State.{UnitState}
+use Rattle.shared_world.proofs.ActorPieces.{actor_of_piece}
 use Rattle.shared_world.proofs.Besides.{apart-of}
 use Rattle.shared_world.proofs.Live.{unit-piece}
-use Rattle.shared_world.proofs.MarkedActors.{acts-marked}
+use Rattle.shared_world.proofs.MarkedActors.{NoneTaken, acts-marked}
 use Rattle.shared_world.proofs.MarkedGone.{marked-gone}
 use Rattle.shared_world.proofs.MarkedSteps.{IsWithChild, forked-not, forked-so, forks_it, marked-step, says_ended}
 use Rattle.shared_world.proofs.MarkedUnits.{ends-going, root-piece}
 use Rattle.shared_world.proofs.Marks.{AreMarkedBut, but-one, marked-set}
 use Rattle.shared_world.proofs.States.{task-set}
+use Rattle.shared_world.proofs.Takings.{none-taken}
 use Rattle.task_fork_join.proofs.StepShapes.{GoesAt, IsAfter, IsShaped, WaitsPlain, shaped}
 use Rattle.shared_world.proofs.Steps.{goes-with}
 use Rattle.shared_world.specs.declared.given.Given.{Given}
@@ -30,10 +32,10 @@ use Rattle.shared_world.specs.rows.Attempts.{Aborts, AttemptGoes, Commits, Tasks
 use Rattle.shared_world.specs.rows.Pieces.{IsSet, task_gone}
 use Rattle.shared_world.specs.rows.Tasks as row
 use Rattle.shared_world.specs.rows.Tasks.{AfterStep, EndGives, IsMarkedTask, Missing, RootGives, StepGives, TaskGives, outer_of}
-use Rattle.task_fork_join.specs.Stepping.{is_held_back}
+use Rattle.task_fork_join.specs.Stepping.{is_missing}
 use Rattle.shared_world.specs.Shared.{Shared, finished_at, finished_by, is_going, state_at, unit_state}
 use Rattle.shared_world.specs.Stands.{Stands}
-use Rattle.task_fork_join.specs.Attempt.{Attempt, end_at, end_by, end_of, machine_of}
+use Rattle.task_fork_join.specs.Attempt.{Attempt, end_at, end_by, end_of, machine_at, machine_of}
 use Rattle.task_fork_join.specs.declared.stepped.Stepped.{Stepped}
 use Rattle.task_fork_join.specs.declared.stepped.Stepped.TheVariants as stepped
 use Rattle.task_fork_join.specs.declared.task.Stage.{Stage}
@@ -65,7 +67,14 @@ none-by escape (Some ended) e = cc
 
 going-open : (s : Stage) → IsGoing s → end_of s ≡ None
 going-open (kept.Going machine) is = refl
+going-open (kept.Closing closing) is = refl
 going-open (kept.Ended ended) is = absurd is
+
+-- a task whose machine is kept has not ended
+keeps-going : (s : Stage) (machine : Evaluation) → machine_at s ≡ Some machine → IsGoing s
+keeps-going (kept.Going m) machine e = tt
+keeps-going (kept.Closing closing) machine e = tt
+keeps-going (kept.Ended ended) machine e = cc
 
 -- The tasks of an attempt of a unit, as they are once one of them has taken a step: those that it had, a child that is no piece
 -- yet, and where it is.
@@ -83,17 +92,39 @@ pub record IsBase (old : Shared) (u : Name) (after : Attempt) (base : Shared) : 
   pub board : base.board ≡ old.board
   pub mails : base.mails ≡ old.mails
   pub owners : base.owners ≡ old.owners
+  pub aheads : base.aheads ≡ old.aheads
+  pub taken : base.taken ≡ old.taken
   pub setup : base.setup ≡ old.setup
+
+-- all else stays where an attempt is gone
+record IsLeftSo (base new : Shared) : Type 0 where
+  setup : new.setup ≡ base.setup
+  owners : new.owners ≡ base.owners
+  aheads : new.aheads ≡ base.aheads
+  taken : new.taken ≡ base.taken
+  mails : SameMail base.mails new.mails
+
+-- so it is where but the pieces are the same
+left-same : (base new : Shared) → new ≡ record base { board = new.board } → IsLeftSo base new
+left-same base new rest = record {
+  setup = ap (λ (s : Shared). s.setup) rest;
+  owners = ap (λ (s : Shared). s.owners) rest;
+  aheads = ap (λ (s : Shared). s.aheads) rest;
+  taken = ap (λ (s : Shared). s.taken) rest;
+  mails = λ a. ap (λ (s : Shared). mail_at s.mails a) rest;
+}
 
 module _ (old : Shared) (marked : AreMarked old) (u : Name) (x : Doing) (tree after : Attempt) (unit_there : unit_at old.board u ≡ Some x) (there : named u old.attempts ≡ Some tree) (tasks : HasTasks old u tree after) (base : Shared) (is_base : IsBase old u after base) where
   -- the attempt is gone
-  gone : (new : Shared) (y : Doing) → AttemptGoes base u y after new → new.setup ≡ base.setup → new.owners ≡ base.owners → SameMail base.mails new.mails → finished_by y.mark ≡ None → (named u new.attempts ≡ None → UnitSays new u y y.mark) → AreMarked new
-  gone new y goes setup owners mails unfinished says = marked-gone old new marked u x y tree after unit_there there (record {
-    setup = setup ∙ is_base.setup;
-    owners = owners ∙ is_base.owners;
+  gone : (new : Shared) (y : Doing) → AttemptGoes base u y after new → IsLeftSo base new → finished_by y.mark ≡ None → (named u new.attempts ≡ None → UnitSays new u y y.mark) → AreMarked new
+  gone new y goes left_so unfinished says = marked-gone old new marked u x y tree after unit_there there (record {
+    setup = left_so.setup ∙ is_base.setup;
+    owners = left_so.owners ∙ is_base.owners;
+    aheads = left_so.aheads ∙ is_base.aheads;
+    taken = left_so.taken ∙ is_base.taken;
     attempts = left;
     tasks = subst (λ (b : Board). TasksGo u y after b new.board) is_base.board goes.tasks;
-    mails = λ a. mails a ∙ ap (λ m. mail_at m a) is_base.mails;
+    mails = λ a. left_so.mails a ∙ ap (λ m. mail_at m a) is_base.mails;
     only = tasks.only;
     all = tasks.all;
     unfinished = unfinished;
@@ -108,21 +139,33 @@ module _ (old : Shared) (marked : AreMarked old) (u : Name) (x : Doing) (tree af
           on false e = e
 
   aborts : (ref : Name) (version : ℕ) (found : Given) (new : Shared) → Aborts base u x after ref version found new → AreMarked new
-  aborts ref version found new r = gone new r.unit r.goes (ap (λ (s : Shared). s.setup) r.others) (ap (λ (s : Shared). s.owners) r.others) (λ a. ap (λ (s : Shared). mail_at s.mails a) r.others) (ap finished_by r.stands.mark) (λ none. subst (λ m. UnitSays new u r.unit m) (sym r.stands.mark) none)
+  aborts ref version found new r = gone new r.unit r.goes (record {
+    setup = ap (λ (s : Shared). s.setup) r.others;
+    owners = ap (λ (s : Shared). s.owners) r.others;
+    aheads = ap (λ (s : Shared). s.aheads) r.others;
+    taken = ap (λ (s : Shared). s.taken) r.others;
+    mails = λ a. ap (λ (s : Shared). mail_at s.mails a) r.others;
+  }) (ap finished_by r.stands.mark) (λ none. subst (λ m. UnitSays new u r.unit m) (sym r.stands.mark) (inl none))
 
   misses : (ref : Name) (o : Option Version) (found : Given) (new : Shared) → Missing base u x after ref o found new → AreMarked new
   misses ref None found new r = absurd r
   misses ref (Some version) found new r = aborts ref version.number found new r
 
   -- the attempt is gone, and then its effects are there
-  commits : (v : Value) (found : Given) (new : Shared) → Commits base u x after v found new → AreMarked new
-  commits v found new r = acts-marked u r.log.log.effects base left new left-marked refl refl refl r.acts nothing r.mails
+  commits : NoneTaken base → (v : Value) (found : Given) (new : Shared) → Commits base u x after v found new → AreMarked new
+  commits none_taken v found new r = acts-marked u r.log.log.effects base left new left-marked refl refl refl refl refl (ap (λ (s : Shared). s.taken) r.others) r.acts nothing none_taken r.mails
     where
       left : Shared
       left = record new { board = r.board; mails = base.mails }
 
       left-marked : AreMarked left
-      left-marked = gone left r.unit (record { attempts = r.goes.attempts; tasks = r.goes.tasks }) (ap (λ (s : Shared). s.setup) r.others) (ap (λ (s : Shared). s.owners) r.others) (λ a. refl) (ap finished_by r.stands.mark) (λ none. subst (λ m. UnitSays left u r.unit m) (sym r.stands.mark) none)
+      left-marked = gone left r.unit (record { attempts = r.goes.attempts; tasks = r.goes.tasks }) (record {
+        setup = ap (λ (s : Shared). s.setup) r.others;
+        owners = ap (λ (s : Shared). s.owners) r.others;
+        aheads = ap (λ (s : Shared). s.aheads) r.others;
+        taken = ap (λ (s : Shared). s.taken) r.others;
+        mails = λ a. refl;
+      }) (ap finished_by r.stands.mark) (λ none. subst (λ m. UnitSays left u r.unit m) (sym r.stands.mark) none)
 
       nothing : (a : Name) → piece_at base.board a ≡ None → piece_at r.board a ≡ None
       nothing a none = r.goes.tasks.others a other ∙ ap (λ found. cond (is_some (named a after.tasks)) (task_gone found) found) none ∙ still (is_some (named a after.tasks))
@@ -134,18 +177,18 @@ module _ (old : Shared) (marked : AreMarked old) (u : Name) (x : Doing) (tree af
           still true = refl
           still false = refl
 
-  ends : (ended : TaskEnd) (found : Given) (new : Shared) → is_going new.end ≡ true → EndGives base u x after ended found new → AreMarked new
-  ends (end.Value v) found new on_going r = commits v found new r
-  ends (end.Fault failed at) found new on_going r = absurd (ends-going base _ _ found new r on_going)
-  ends end.Spent found new on_going r = absurd (ends-going base _ _ found new r on_going)
+  ends : NoneTaken base → (ended : TaskEnd) (found : Given) (new : Shared) → is_going new.end ≡ true → EndGives base u x after ended found new → AreMarked new
+  ends none_taken (end.Value v) found new on_going r = commits none_taken v found new r
+  ends none_taken (end.Fault failed at) found new on_going r = absurd (ends-going base _ _ found new r on_going)
+  ends none_taken end.Spent found new on_going r = absurd (ends-going base _ _ found new r on_going)
 
-  pub roots : (ended : TaskEnd) (found : Given) (new : Shared) → is_going new.end ≡ true → RootGives base u x after ended found new → AreMarked new
-  roots ended found new on_going (row.valid level unchanged gives) = ends ended found new on_going gives
-  roots ended found new on_going (row.conflicts level c) = aborts c.ref c.conflict.version found new c.aborts
+  pub roots : NoneTaken base → (ended : TaskEnd) (found : Given) (new : Shared) → is_going new.end ≡ true → RootGives base u x after ended found new → AreMarked new
+  roots none_taken ended found new on_going (row.valid level unchanged gives) = ends none_taken ended found new on_going gives
+  roots none_taken ended found new on_going (row.conflicts level c) = aborts c.ref c.conflict.version found new c.aborts
 
 -- the attempt as it is kept
 kept-base : (old : Shared) (u : Name) (tree : Attempt) → named u old.attempts ≡ Some tree → IsBase old u tree old
-kept-base old u tree there = record { attempts = λ v. own v (same_name v u) refl; board = refl; mails = refl; owners = refl; setup = refl }
+kept-base old u tree there = record { attempts = λ v. own v (same_name v u) refl; board = refl; mails = refl; owners = refl; aheads = refl; taken = refl; setup = refl }
   where
     own : (v : Name) (c : Bool) → same_name v u ≡ c → named v old.attempts ≡ cond (same_name v u) (Some tree) (named v old.attempts)
     own v true e = ap (λ q. named q old.attempts) (same_name-equal v u e) ∙ there ∙ sym (ap (λ c. cond c (Some tree) (named v old.attempts)) e)
@@ -225,7 +268,7 @@ module _ (old : Shared) (st : Stands old) (marked : AreMarked old) (going : is_g
   attempt-of v = named-with_named v u after old.attempts
 
   is-base : IsBase old u after base
-  is-base = record { attempts = attempt-of; board = refl; mails = refl; owners = refl; setup = refl }
+  is-base = record { attempts = attempt-of; board = refl; mails = refl; owners = refl; aheads = refl; taken = refl; setup = refl }
 
   finished-none : (b : Board) (k : Mark) → piece_at b task ≡ Some (piece.Task k) → finished_at b task ≡ None
   finished-none b k e = ap (λ p. option_and_then (λ (k : UnitState). k.finished) (option_map unit_state (option_and_then unit_in p))) e
@@ -248,23 +291,25 @@ module _ (old : Shared) (st : Stands old) (marked : AreMarked old) (going : is_g
           apart-of v u e (sym same)
 
   -- the task has the mark, in what is kept with the step
-  sets : (new s : Shared) (k : Mark) → IsSet task (piece.Task k) k s.board new.board → new.setup ≡ s.setup → new.attempts ≡ s.attempts → new.owners ≡ s.owners → SameMail s.mails new.mails
+  sets : (new s : Shared) (k : Mark) → IsSet task (piece.Task k) k s.board new.board → new.attempts ≡ s.attempts → IsLeftSo s new
       → ((v : Name) → named v s.attempts ≡ cond (same_name v u) (Some after) (named v old.attempts)) → named task s.owners ≡ Some u → AreMarkedBut task (says_finished k) s
       → (says_finished k ≡ true → (v : Name) (some : Attempt) → named v s.attempts ≡ Some some → some.root ≡ task → ⊥)
       → (end_at after ≡ None → TaskSays new.board after.tasks shape.after k) → AreMarked new
-  sets new s k set setup attempts owners mails at owned but roots says = marked-set s new task (piece.Task k) k (record {
+  sets new s k set attempts left_so at owned but roots says = marked-set s new task (piece.Task k) k (record {
     set = set;
-    setup = setup;
+    setup = left_so.setup;
     attempts = attempts;
-    owners = owners;
-    mails = mails;
+    owners = left_so.owners;
+    aheads = λ v other. ap (named v) left_so.aheads;
+    taken = left_so.taken;
+    mails = left_so.mails;
     unfinished = λ e. finished-none new.board k set.here;
     no_root = roots;
     stays = λ j e. refl;
     unit = λ y e. cc;
     task = λ j e. let same : k ≡ j = cc in record {
       owner = u;
-      of = ap (named task) owners ∙ owned;
+      of = ap (named task) left_so.owners ∙ owned;
       tree = after;
       attempt = ap (named u) attempts ∙ at u ∙ ap (λ c. cond c (Some after) (named u old.attempts)) (same_name-itself u);
       task = shape.after;
@@ -281,6 +326,8 @@ module _ (old : Shared) (st : Stands old) (marked : AreMarked old) (going : is_g
     pieces = λ n. sym (ap (λ c. cond c (Some (piece.Task (mark.Ready work.Eval))) (piece_at old.board n)) (ap (λ k. forks_it k n) so ∙ none n));
     owners = λ n. sym (ap (λ c. cond c (Some u) (named n old.owners)) (ap (λ k. forks_it k n) so ∙ none n));
     none = λ n e. let no : true ≡ false = sym e ∙ ap (λ k. forks_it k n) so ∙ none n in cc;
+    aheads = refl;
+    taken = refl;
     mails = λ a. refl;
   }
 
@@ -289,7 +336,7 @@ module _ (old : Shared) (st : Stands old) (marked : AreMarked old) (going : is_g
 
   marks-task : (new : Shared) (k : Mark) (w : Stepped) → went ≡ w → ((n : Name) → forks_it w n ≡ false) → (end_at after ≡ None → says_ended w ≡ true → says_finished k ≡ true) → IsMarkedTask base task k new
       → (says_finished k ≡ true → (v : Name) (some : Attempt) → named v base.attempts ≡ Some some → some.root ≡ task → ⊥) → (end_at after ≡ None → TaskSays new.board after.tasks shape.after k) → AreMarked new
-  marks-task new k w so none same marked_so roots says = sets new base k marked_so.set (ap (λ (s : Shared). s.setup) marked_so.others) (ap (λ (s : Shared). s.attempts) marked_so.others) (ap (λ (s : Shared). s.owners) marked_so.others) (λ a. ap (λ (s : Shared). mail_at s.mails a) marked_so.others)
+  marks-task new k w so none same marked_so roots says = sets new base k marked_so.set (ap (λ (s : Shared). s.attempts) marked_so.others) (left-same base new marked_so.others)
       attempt-of of (stepped-base w so none (says_finished k) same) roots says
 
   is-after : (w : Stepped) → went ≡ w → IsAfter tree.tasks outer h w shape.after
@@ -329,6 +376,8 @@ module _ (old : Shared) (st : Stands old) (marked : AreMarked old) (going : is_g
       pieces = λ n. stands n (same_name n child) refl ∙ sym (ap (λ c. cond c (Some (piece.Task (mark.Ready work.Eval))) (piece_at old.board n)) (fork-of n));
       owners = λ n. named-with_named n child u old.owners ∙ sym (ap (λ c. cond c (Some u) (named n old.owners)) (fork-of n));
       none = λ n e. ap (piece_at old.board) (same_name-equal n child (sym (fork-of n) ∙ e)) ∙ f.none;
+      aheads = refl;
+      taken = refl;
       mails = λ a. refl;
     }
       where
@@ -337,7 +386,7 @@ module _ (old : Shared) (st : Stands old) (marked : AreMarked old) (going : is_g
         stands n false e = f.put.others n (apart-of n child e) ∙ sym (ap (λ c. cond c (Some (piece.Task (mark.Ready work.Eval))) (piece_at old.board n)) e)
 
     forked : AreMarked new
-    forked = sets new s (mark.Ready work.Eval) f.steps.set (ap (λ (k : Shared). k.setup) f.steps.others) (ap (λ (k : Shared). k.attempts) f.steps.others) (ap (λ (k : Shared). k.owners) f.steps.others) (λ a. ap (λ (k : Shared). mail_at k.mails a) f.steps.others)
+    forked = sets new s (mark.Ready work.Eval) f.steps.set (ap (λ (k : Shared). k.attempts) f.steps.others) (left-same s new f.steps.others)
         attempt-of owned (marked-step old s marked u task tree after there before outer h went step.stays.root in_tree shape refl with-child false (λ unended e. let no : false ≡ true = sym (ap says_ended so) ∙ e in cc)) (λ e. cc) (λ unended. is-after (stepped.Forked child) so)
 
   -- what comes of it where the root is not at its end
@@ -351,10 +400,10 @@ module _ (old : Shared) (st : Stands old) (marked : AreMarked old) (going : is_g
 
   pub step-marked : (found : Given) (new : Shared) (o : Option TaskEnd) → end_at after ≡ o → is_going new.end ≡ true → AfterStep base u x task after went o found new → AreMarked new
   step-marked found new None unended on_going gives = comes found new went refl unended gives
-  step-marked found new (Some ended) is_ended on_going gives = roots old marked u x tree after unit_there there (has-tasks (no-fork ended is_ended)) base is-base ended found new on_going gives
+  step-marked found new (Some ended) is_ended on_going gives = roots old marked u x tree after unit_there there (has-tasks (no-fork ended is_ended)) base is-base (λ a none. none-taken old st a (ap actor_of_piece none)) ended found new on_going gives
 
-  -- The mark of the task stays for want of memory, where it waits for a finish or for a ref.
-  module _ (new : Shared) (held : is_held_back went ≡ true) (stays : piece_at new.board task ≡ Some (piece.Task m)) (others : (q : Name) → (q ≡ task → ⊥) → piece_at new.board q ≡ piece_at old.board q) (rest : new ≡ record base { board = new.board }) where
+  -- The mark of the task stays for want of memory, where it waits for a ref.
+  module _ (new : Shared) (held : is_missing went ≡ true) (stays : piece_at new.board task ≡ Some (piece.Task m)) (others : (q : Name) → (q ≡ task → ⊥) → piece_at new.board q ≡ piece_at old.board q) (rest : new ≡ record base { board = new.board }) where
     own : IsTaskPiece old task m
     own = marked.tasks task m at_task
 
@@ -373,8 +422,8 @@ module _ (old : Shared) (st : Stands old) (marked : AreMarked old) (going : is_g
     goes : IsGoing shape.after.stage
     goes = by went refl held
       where
-        by : (k : Stepped) → went ≡ k → is_held_back k ≡ true → IsGoing shape.after.stage
-        by (stepped.WaitJoin f) so e = (is-after (stepped.WaitJoin f) so).0
+        by : (k : Stepped) → went ≡ k → is_missing k ≡ true → IsGoing shape.after.stage
+        by (stepped.WaitJoin f) so e = cc
         by (stepped.NotInSnapshot ref) so e = is-after (stepped.NotInSnapshot ref) so
         by stepped.Now so e = cc
         by (stepped.Forked child) so e = cc
@@ -383,8 +432,8 @@ module _ (old : Shared) (st : Stands old) (marked : AreMarked old) (going : is_g
     no-forks : (n : Name) → forks_it went n ≡ false
     no-forks n = by went held
       where
-        by : (k : Stepped) → is_held_back k ≡ true → forks_it k n ≡ false
-        by (stepped.WaitJoin f) e = refl
+        by : (k : Stepped) → is_missing k ≡ true → forks_it k n ≡ false
+        by (stepped.WaitJoin f) e = cc
         by (stepped.NotInSnapshot ref) e = refl
         by stepped.Now e = cc
         by (stepped.Forked child) e = cc
@@ -393,8 +442,8 @@ module _ (old : Shared) (st : Stands old) (marked : AreMarked old) (going : is_g
     no-end : says_ended went ≡ false
     no-end = by went held
       where
-        by : (k : Stepped) → is_held_back k ≡ true → says_ended k ≡ false
-        by (stepped.WaitJoin f) e = refl
+        by : (k : Stepped) → is_missing k ≡ true → says_ended k ≡ false
+        by (stepped.WaitJoin f) e = cc
         by (stepped.NotInSnapshot ref) e = refl
         by stepped.Now e = cc
         by (stepped.Forked child) e = cc
@@ -426,8 +475,8 @@ module _ (old : Shared) (st : Stands old) (marked : AreMarked old) (going : is_g
         (record { set = record { here = stays ∙ ap (λ k. Some (piece.Task k)) is_m; others = λ n other. others n other ∙ sym (plain (piece_at old.board n)) }; others = rest })
         (λ e. let no : true ≡ false = sym e ∙ unfinished in cc) says
 
-    pub left-waiting : AreMarked new
-    left-waiting = by m refl says-so
+    pub left-missing : AreMarked new
+    left-missing = by m refl says-so
       where
         by : (q : Mark) → m ≡ q → TaskSays old.board tree.tasks in_tree.0 q → AreMarked new
         by (mark.Ready work.Eval) e says = keeps (mark.Ready work.Eval) e refl (λ p. refl) (λ o. goes)
@@ -440,8 +489,12 @@ module _ (old : Shared) (st : Stands old) (marked : AreMarked old) (going : is_g
             let it = goes-with tree task machine is in
             let both : Some in_tree.0 ≡ Some it.task = sym in_tree.1 ∙ it.there in
             let same : in_tree.0 ≡ it.task = cc in
-            absurd (says (going-open in_tree.0.stage (subst (λ s. IsGoing s) (sym (ap (λ (k : Task). k.stage) same ∙ it.stage)) tt)))
+            absurd (says (going-open in_tree.0.stage (subst (λ (k : Task). IsGoing k.stage) (sym same) (keeps-going it.task.stage machine it.keeps))))
         by mark.Dropped e says = absurd says
+
+  -- It can be evaluated again for want of memory, where it waits for a finish.
+  pub left-again : (new : Shared) (f : Name) → went ≡ stepped.WaitJoin f → IsMarkedTask base task (mark.Ready work.Eval) new → AreMarked new
+  left-again new f so marked_so = marks-task new (mark.Ready work.Eval) (stepped.WaitJoin f) so (λ n. refl) (λ o e. cc) marked_so (λ e. cc) (λ o. (is-after (stepped.WaitJoin f) so).0)
 
   -- It is ready to settle for want of memory, where the root is at its end.
   pub left-ended : (new : Shared) (ended : TaskEnd) → end_at after ≡ Some ended → IsMarkedTask base task (mark.Ready work.Settle) new → AreMarked new
@@ -454,6 +507,8 @@ left-settling old marked task m at_task new is = marked-set old new task (piece.
   setup = ap (λ (s : Shared). s.setup) is.others;
   attempts = ap (λ (s : Shared). s.attempts) is.others;
   owners = ap (λ (s : Shared). s.owners) is.others;
+  aheads = λ v other. ap (λ (s : Shared). named v s.aheads) is.others;
+  taken = ap (λ (s : Shared). s.taken) is.others;
   mails = λ a. ap (λ (s : Shared). mail_at s.mails a) is.others;
   unfinished = λ e. ap (λ p. option_and_then (λ (k : UnitState). k.finished) (option_map unit_state (option_and_then unit_in p))) is.set.here;
   no_root = λ e. cc;
@@ -484,4 +539,4 @@ marked-task old st marked unended name found new on_going g = on (end_at g.tree)
     on : (ended : Option TaskEnd) (machine : Option Evaluation) → end_at g.tree ≡ ended → machine_of g.tree name ≡ machine → TaskGives old g.owner g.unit name g.tree ended machine found new → AreMarked new
     on None (Some machine) before is r = step-marked old st marked going g.owner name g.unit g.tree g.mark g.there g.of g.unit_there g.attempt before machine r.moved is r.after r.went r.step found new (end_at r.after) refl on_going r.comes
     on None None before is r = absurd r
-    on (Some ended) machine before is r = roots old marked g.owner g.unit g.tree g.tree g.unit_there g.attempt (same-tasks old g.owner g.tree) old (kept-base old g.owner g.tree g.attempt) ended found new on_going r
+    on (Some ended) machine before is r = roots old marked g.owner g.unit g.tree g.tree g.unit_there g.attempt (same-tasks old g.owner g.tree) old (kept-base old g.owner g.tree g.attempt) (λ a none. none-taken old st a (ap actor_of_piece none)) ended found new on_going r

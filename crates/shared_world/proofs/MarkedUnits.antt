@@ -1,5 +1,5 @@
 -- How the marks stay right where a unit does something.
-use Rattle.std.proofs.Common.{◌≡◌, ◌∙◌, ◌⊎◌, ◌==◌, Bool, true, false, cond, List, [], ◌∷◌, ◌++◌, refl, suc, sym, ap, subst}
+use Rattle.std.proofs.Common.{◌≡◌, ◌∙◌, ◌⊎◌, ◌==◌, Bool, true, false, cond, List, [], ◌∷◌, ◌++◌, refl, suc, sym, ap, ap₂, subst}
 use Rattle.std.specs.Option.{option_and_then, option_map}
 use Rattle.std.specs.Prelude.{Option, None, Some, is_some, ℕ}
 use Rattle.actor_mails.specs.Mails.{SameMail, mail_at}
@@ -11,17 +11,20 @@ use Rattle.serial_model.specs.declared.halt.Halt.TheVariants as halt
 use Rattle.serial_model.specs.declared.request.Request.TheVariants as request
 use Rattle.serial_model.specs.State.{UnitState}
 use Rattle.serial_model.specs.Step.{after_turn, idle, next_made, next_of}
+use Rattle.shared_world.proofs.ActorPieces.{actor_of_piece}
 use Rattle.shared_world.proofs.Besides.{apart-of}
 use Rattle.shared_world.proofs.Live.{no-piece, unit-piece}
-use Rattle.shared_world.proofs.MarkedActors.{actor-placed, actor-sent}
-use Rattle.shared_world.proofs.Marks.{AreMarkedBut, IsRightSet, IsSameButActors, SameRoot, but-one, but_actor, come-again, marked-actors, marked-set, same-but, same-root, same-task, task-again, unit-again}
+use Rattle.shared_world.proofs.MarkedActors.{actor-placed, actor-sent, has-last}
+use Rattle.shared_world.proofs.Marks.{AreMarkedBut, IsRightSet, IsSameButActors, SameRoot, but-one, but_actor, come-again, marked-actors, marked-set, same-but, same-root, same-settles, same-task, unfinished-mark, task-again, unit-again}
 use Rattle.shared_world.proofs.States.{unit-set}
+use Rattle.shared_world.proofs.Takings.{none-taken, turn-free}
 use Rattle.shared_world.proofs.Units.{IsHere, no-attempt}
 use Rattle.shared_world.specs.declared.given.Given.{Given}
 use Rattle.shared_world.specs.Marks as marks
 use Rattle.shared_world.specs.Marks.{AreMarked, HasPiece, IsTaskPiece, UnitSays}
-use Rattle.shared_world.specs.rows.Actors.{FinishesTurn, Sends, Spawns, actor_mark}
-use Rattle.shared_world.specs.rows.Attempts.{Begins}
+use Rattle.shared_world.specs.rows.Actors.{FinishesTurn, Sends, Spawns, actor_mark, has_turn}
+use Rattle.shared_world.specs.rows.Attempts.{BeginsMarked}
+use Rattle.shared_world.specs.rows.Leading.{can_settle, settles_next}
 use Rattle.shared_world.specs.rows.Pieces.{EndsBy, Settles, mark_after}
 use Rattle.shared_world.specs.rows.Units.{Becomes, Derefs, Finishes, Forks, ForksIfAllowed, Joins, Selves, Tries, UnitGives, Waits}
 use Rattle.shared_world.specs.Shared.{Shared, actor_of, finished_at, finished_by, is_going, ref_now, state_at, unit_state}
@@ -44,6 +47,7 @@ use Rattle.value_core.proofs.NamedViews.{named-each_as}
 use Rattle.value_core.specs.declared.value.Value.{Value}
 use Rattle.value_core.specs.Named.{Name, named, same_name, with_named}
 use Rattle.value_core.specs.Place.{Spot}
+use Rattle.world_model.specs.Message.{settled as message_settled}
 
 -- a unit asks for no transaction
 abbrev AsksElse : Shared → Doing → Type 0
@@ -76,7 +80,8 @@ no-attempt-of s st going c none = on (named c s.attempts) refl
     on (Some tree) is = let way = st.attempts going c tree is in let no : None ≡ Some way.unit = sym (no-piece s.board c none) ∙ way.there in cc
 
 -- a unit that can go on is put where nothing stood
-module _ (old new : Shared) (all : AreMarked old) (c : Name) (child : Doing) (setup : new.setup ≡ old.setup) (attempts : new.attempts ≡ old.attempts) (owners : new.owners ≡ old.owners) (mails : SameMail old.mails new.mails)
+module _ (old new : Shared) (all : AreMarked old) (c : Name) (child : Doing) (setup : new.setup ≡ old.setup) (attempts : new.attempts ≡ old.attempts) (owners : new.owners ≡ old.owners)
+    (aheads : (v : Name) → (v ≡ c → ⊥) → named v new.aheads ≡ named v old.aheads) (taken : new.taken ≡ old.taken) (mails : SameMail old.mails new.mails)
     (nothing : piece_at old.board c ≡ None) (none : named c old.attempts ≡ None) (ready : child.mark ≡ mark.Ready work.Eval) (put : IsPutAt c (Some (piece.Unit child)) old.board new.board) where
   elsewhere : (n : Name) (p : Piece) → piece_at old.board n ≡ Some p → n ≡ c → ⊥
   elsewhere n p at same = let no : None ≡ Some p = sym nothing ∙ ap (piece_at old.board) (sym same) ∙ at in cc
@@ -96,7 +101,11 @@ module _ (old new : Shared) (all : AreMarked old) (c : Name) (child : Doing) (se
       let both : Some child ≡ Some x = sym (ap (unit_at new.board) (same_name-equal v c e) ∙ ap (option_and_then unit_in) put.here) ∙ at in
       let same : child ≡ x = cc in
       subst (λ m. UnitSays new v x m) (sym ready ∙ ap (λ (k : Doing). k.mark) same) (attempt-same v ∙ ap (λ n. named n old.attempts) (same_name-equal v c e) ∙ none)
-  units v x false e at = unit-again old new v x x.mark setup (subst (λ o. SameRoot (named v old.attempts) o) (sym (attempt-same v)) (same-root (named v old.attempts))) (λ f waits. over f)
+  units v x false e at = unit-again old new v x x.mark setup (record {
+    root = subst (λ o. SameRoot (named v old.attempts) o) (sym (attempt-same v)) (same-root (named v old.attempts));
+    ahead = aheads v (apart-of v c e);
+    settles = same-settles old new v (aheads v (apart-of v c e)) taken;
+  }) (λ f waits. over f)
       (all.units v x (sym (ap (option_and_then unit_in) (put.others v (apart-of v c e))) ∙ at))
 
   tasks : (n : Name) (m : Mark) (b : Bool) → same_name n c ≡ b → piece_at new.board n ≡ Some (piece.Task m) → IsTaskPiece new n m
@@ -111,9 +120,9 @@ module _ (old new : Shared) (all : AreMarked old) (c : Name) (child : Doing) (se
     says = λ unended. task-again old.board new.board is.tree.tasks is.tree.tasks is.task m (λ f waits. come-again old.board new.board is.tree.tasks is.task f (over f)) (is.says unended);
   }
 
-  actors : (a : Name) (z : Actor) (b : Bool) → same_name a c ≡ b → piece_at new.board a ≡ Some (piece.Actor z) → z.mark ≡ actor_mark z.state.busy (mail_at new.mails a)
+  actors : (a : Name) (z : Actor) (b : Bool) → same_name a c ≡ b → piece_at new.board a ≡ Some (piece.Actor z) → z.mark ≡ actor_mark (has_turn new.taken a z.state) (mail_at new.mails a)
   actors a z true e at = let no : Some (piece.Unit child) ≡ Some (piece.Actor z) = sym (ap (piece_at new.board) (same_name-equal a c e) ∙ put.here) ∙ at in cc
-  actors a z false e at = all.actors a z (sym (put.others a (apart-of a c e)) ∙ at) ∙ ap (actor_mark z.state.busy) (sym (mails a))
+  actors a z false e at = all.actors a z (sym (put.others a (apart-of a c e)) ∙ at) ∙ sym (ap₂ (λ t mail. actor_mark (has_turn t a z.state) mail) taken (mails a))
 
   pub marked-put : AreMarked new
   marked-put = record {
@@ -146,6 +155,8 @@ module _ (old : Shared) (st : Stands old) (all : AreMarked old) (u : Name) (x : 
     setup = ap (λ (s : Shared). s.setup) r.others;
     attempts = ap (λ (s : Shared). s.attempts) r.others;
     owners = ap (λ (s : Shared). s.owners) r.others;
+    aheads = λ v other. ap (λ (s : Shared). named v s.aheads) r.others;
+    taken = ap (λ (s : Shared). s.taken) r.others;
     mails = λ a. ap (λ (s : Shared). mail_at s.mails a) r.others;
     unfinished = λ e. ap (λ p. option_and_then (λ (k : UnitState). k.finished) (option_map unit_state (option_and_then unit_in p))) r.set.here ∙ ap finished_by r.stands.mark ∙ unended after.finished e;
     no_root = λ e v tree there. no-root v tree (sym (attempts v) ∙ there);
@@ -184,12 +195,14 @@ module _ (old : Shared) (st : Stands old) (all : AreMarked old) (u : Name) (x : 
       setup = ap (λ (s : Shared). s.setup) r.others;
       attempts = ap (λ (s : Shared). s.attempts) r.others;
       owners = ap (λ (s : Shared). s.owners) r.others;
+      aheads = λ v other. ap (λ (s : Shared). named v s.aheads) r.others;
+      taken = ap (λ (s : Shared). s.taken) r.others;
       mails = λ a. ap (λ (s : Shared). mail_at s.mails a) r.others;
       unfinished = λ e. over u (ap (λ o. option_and_then (λ (k : UnitState). k.finished) o) here.there ∙ here.unfinished);
       no_root = λ e. cc;
       stays = λ k is. absurd (no-task k is);
       unit = λ y e. let same : r.marked.unit ≡ y = cc in subst (λ m. UnitSays new u y m) (sym (ap (λ (k : Doing). k.mark) (sym same) ∙ r.marked.stands.mark))
-          (marks.join (ap (λ (s : Shared). named u s.attempts) r.others ∙ none) at (ap (λ (s : Shared). next_of s.setup (unit_state y)) r.others ∙ ap (next_of old.setup) (ap unit_state (sym same) ∙ r.marked.stands.state) ∙ asks) (over f unfinished));
+          (marks.join (ap (λ (s : Shared). named u s.aheads) r.others ∙ here.level) (ap (λ (s : Shared). named u s.attempts) r.others ∙ none) at (ap (λ (s : Shared). next_of s.setup (unit_state y)) r.others ∙ ap (next_of old.setup) (ap unit_state (sym same) ∙ r.marked.stands.state) ∙ asks) (over f unfinished));
       task = λ k e. cc;
       actor = λ a e. cc;
     }) (but-one old u false all)
@@ -203,147 +216,159 @@ module _ (old : Shared) (st : Stands old) (all : AreMarked old) (u : Name) (x : 
 
     pub forks : (body : NodeId) (values : List Value) (found : Given) (new : Shared) → Forks old u x body values found new → AreMarked new
     forks body values found new r = settled base _ found new refl (λ v. refl)
-        (marked-put old base all (next_made u (unit_state x)) r.child refl refl refl (λ a. refl) r.none (no-attempt-of old st going (next_made u (unit_state x)) r.none) r.begins.mark r.put)
+        (marked-put old base all (next_made u (unit_state x)) r.child refl refl refl (λ v other. refl) refl (λ a. refl) r.none (no-attempt-of old st going (next_made u (unit_state x)) r.none) r.begins.mark r.put)
         (λ k at. no-task k (sym (r.put.others u (λ same. let no : None ≡ Some (piece.Unit x) = sym r.none ∙ ap (piece_at old.board) (sym same) ∙ unit-piece old.board u x at_u in cc)) ∙ at)) none r.settles
       where
         base : Shared
         base = record old { made = suc old.made; board = r.board }
 
     pub sends : (to : Name) (args : List Value) (found : Given) (new : Shared) → Sends old u x to args found new → AreMarked new
-    sends to args found new r = goes-on (record old { board = r.board; mails = r.mails }) _ found new (actor-sent old all u to args r.mails r.board r.mailed r.rouses) r.settles
+    sends to args found new r = goes-on (record old { board = r.board; mails = r.mails }) _ found new (actor-sent old all to r.mails r.board (λ empty. has-last (mail_at old.mails to) (message_settled u args) [] (sym r.mailed.here ∙ empty)) r.mailed.others r.rouses) r.settles
 
     pub spawns : (behaviour : ℕ) (state : List Value) (found : Given) (new : Shared) → Spawns old u x behaviour state found new → AreMarked new
-    spawns behaviour state found new r = goes-on (record old { board = r.board }) _ found new (actor-placed old all (next_made u (unit_state x)) (idle behaviour state) r.board (ap but_actor r.none) r.put) r.settles
+    spawns behaviour state found new r = goes-on (record old { board = r.board }) _ found new (actor-placed old all (next_made u (unit_state x)) (idle behaviour state) r.board (ap but_actor r.none) (none-taken old st (next_made u (unit_state x)) (ap actor_of_piece r.none)) r.put) r.settles
 
-    pub finishes-turn : (a : Name) (v : Value) (found : Given) (new : Shared) → FinishesTurn old u x a v found new → AreMarked new
-    finishes-turn a v found new r = goes-on (record old { board = r.board }) _ found new (actor-placed old all a (after_turn (unit_state x).becomes r.actor.state) r.board (ap but_actor r.there) r.freed) r.settles
+    pub finishes-turn : (a : Name) (v : Value) → (unit_state x).actor ≡ Some a → (found : Given) (new : Shared) → FinishesTurn old u x a v found new → AreMarked new
+    finishes-turn a v of found new r = goes-on (record old { board = r.board }) _ found new
+        (actor-placed old all a (after_turn (unit_state x).becomes r.actor.state) r.board (ap but_actor r.there) (turn-free old st u a (unit_state x) here.level here.there of here.unfinished) r.freed) r.settles
 
-  -- an attempt begins, and the unit waits for its root
-  module _ (body : NodeId) (values : List Value) (at : Spot) (none : named u old.attempts ≡ None) (found : Given) (new : Shared) (r : Begins old u x body values at found new) where
-    abbrev root : Name
-    root = next_made u (unit_state x)
+-- an attempt of a unit begins
+module _ (old : Shared) (all : AreMarked old) (u : Name) (x : Doing) (at_u : unit_at old.board u ≡ Some x) (m : Mark) (body : NodeId) (values : List Value) (at : Spot) (none : named u old.attempts ≡ None) (found : Given) (new : Shared)
+    (r : BeginsMarked old u x m body values at found new) where
+  abbrev root : Name
+  root = next_made u (unit_state x)
 
-    abbrev s : Shared
-    s = record old { attempts = with_named old.attempts u r.tree; owners = with_named old.owners root u; board = r.board }
+  abbrev s : Shared
+  s = record old { attempts = with_named old.attempts u r.tree; owners = with_named old.owners root u; board = r.board }
 
-    attempt-of : (v : Name) → named v s.attempts ≡ cond (same_name v u) (Some r.tree) (named v old.attempts)
-    attempt-of v = named-with_named v u r.tree old.attempts
+  attempt-of : (v : Name) → named v s.attempts ≡ cond (same_name v u) (Some r.tree) (named v old.attempts)
+  attempt-of v = named-with_named v u r.tree old.attempts
 
-    owner-of : (n : Name) → named n s.owners ≡ cond (same_name n root) (Some u) (named n old.owners)
-    owner-of n = named-with_named n root u old.owners
+  owner-of : (n : Name) → named n s.owners ≡ cond (same_name n root) (Some u) (named n old.owners)
+  owner-of n = named-with_named n root u old.owners
 
-    begun : (q : Name) → finished_at old.board q ≡ None → finished_at r.board q ≡ None
-    begun q is = on (same_name q root) refl
-      where
-        on : (c : Bool) → same_name q root ≡ c → finished_at r.board q ≡ None
-        on true e = ap (finished_at r.board) (same_name-equal q root e) ∙ ap (λ p. option_and_then (λ (k : UnitState). k.finished) (option_map unit_state (option_and_then unit_in p))) r.root.here
-        on false e = ap (λ p. option_and_then (λ (k : UnitState). k.finished) (option_map unit_state (option_and_then unit_in p))) (r.root.others q (apart-of q root e)) ∙ is
+  begun : (q : Name) → finished_at old.board q ≡ None → finished_at r.board q ≡ None
+  begun q is = on (same_name q root) refl
+    where
+      on : (c : Bool) → same_name q root ≡ c → finished_at r.board q ≡ None
+      on true e = ap (finished_at r.board) (same_name-equal q root e) ∙ ap (λ p. option_and_then (λ (k : UnitState). k.finished) (option_map unit_state (option_and_then unit_in p))) r.root.here
+      on false e = ap (λ p. option_and_then (λ (k : UnitState). k.finished) (option_map unit_state (option_and_then unit_in p))) (r.root.others q (apart-of q root e)) ∙ is
 
-    begun-units : (v : Name) (z : Doing) (c : Bool) → same_name v root ≡ c → (v ≡ u → ⊥) → unit_at r.board v ≡ Some z → UnitSays s v z z.mark
-    begun-units v z true e other is = let no : None ≡ Some z = sym (ap (unit_at r.board) (same_name-equal v root e) ∙ ap (option_and_then unit_in) r.root.here) ∙ is in cc
-    begun-units v z false e other is = unit-again old s v z z.mark refl (subst (λ o. SameRoot (named v old.attempts) o) (sym (attempt-of v ∙ apart (same_name v u) refl)) (same-root (named v old.attempts))) (λ f waits. begun f)
-        (all.units v z (sym (ap (option_and_then unit_in) (r.root.others v (apart-of v root e))) ∙ is))
-      where
-        apart : (c : Bool) → same_name v u ≡ c → cond c (Some r.tree) (named v old.attempts) ≡ named v old.attempts
-        apart true e = absurd (other (same_name-equal v u e))
-        apart false e = refl
+  begun-units : (v : Name) (z : Doing) (c : Bool) → same_name v root ≡ c → (v ≡ u → ⊥) → unit_at r.board v ≡ Some z → UnitSays s v z z.mark
+  begun-units v z true e other is = let no : None ≡ Some z = sym (ap (unit_at r.board) (same_name-equal v root e) ∙ ap (option_and_then unit_in) r.root.here) ∙ is in cc
+  begun-units v z false e other is = unit-again old s v z z.mark refl (record {
+    root = subst (λ o. SameRoot (named v old.attempts) o) (sym (attempt-of v ∙ apart (same_name v u) refl)) (same-root (named v old.attempts));
+    ahead = refl;
+    settles = refl;
+  }) (λ f waits. begun f)
+      (all.units v z (sym (ap (option_and_then unit_in) (r.root.others v (apart-of v root e))) ∙ is))
+    where
+      apart : (c : Bool) → same_name v u ≡ c → cond c (Some r.tree) (named v old.attempts) ≡ named v old.attempts
+      apart true e = absurd (other (same_name-equal v u e))
+      apart false e = refl
 
-    abbrev task : Task
-    task = r.fresh.new.alone.task
+  abbrev task : Task
+  task = r.fresh.new.alone.task
 
-    task-is : (n : Name) → named n r.tree.tasks ≡ cond (same_name n root) (Some task) None
-    task-is n = ap (named n) r.fresh.new.alone.tasks_are
+  task-is : (n : Name) → named n r.tree.tasks ≡ cond (same_name n root) (Some task) None
+  task-is n = ap (named n) r.fresh.new.alone.tasks_are
 
-    begun-tasks : (n : Name) (m : Mark) (c : Bool) → same_name n root ≡ c → piece_at r.board n ≡ Some (piece.Task m) → IsTaskPiece s n m
-    begun-tasks n m true e is = let both : Some (piece.Task (mark.Ready work.Eval)) ≡ Some (piece.Task m) = sym (ap (piece_at r.board) (same_name-equal n root e) ∙ r.root.here) ∙ is in
-        let so : mark.Ready work.Eval ≡ m = cc in record {
-          owner = u;
-          of = owner-of n ∙ ap (λ c. cond c (Some u) (named n old.owners)) e;
-          tree = r.tree;
-          attempt = attempt-of u ∙ ap (λ c. cond c (Some r.tree) (named u old.attempts)) (same_name-itself u);
-          task = task;
-          among = task-is n ∙ ap (λ c. cond c (Some task) None) e;
-          says = λ unended. subst (λ k. marks.TaskSays r.board r.tree.tasks task k) so (subst (λ g. IsGoing g) (sym r.fresh.new.alone.goes) tt);
-        }
-    begun-tasks n m false e is = on (same_name before.owner u) refl
-      where
-        before : IsTaskPiece old n m
-        before = all.tasks n m (sym (r.root.others n (apart-of n root e)) ∙ is)
+  begun-tasks : (n : Name) (m : Mark) (c : Bool) → same_name n root ≡ c → piece_at r.board n ≡ Some (piece.Task m) → IsTaskPiece s n m
+  begun-tasks n m true e is = let both : Some (piece.Task (mark.Ready work.Eval)) ≡ Some (piece.Task m) = sym (ap (piece_at r.board) (same_name-equal n root e) ∙ r.root.here) ∙ is in
+      let so : mark.Ready work.Eval ≡ m = cc in record {
+        owner = u;
+        of = owner-of n ∙ ap (λ c. cond c (Some u) (named n old.owners)) e;
+        tree = r.tree;
+        attempt = attempt-of u ∙ ap (λ c. cond c (Some r.tree) (named u old.attempts)) (same_name-itself u);
+        task = task;
+        among = task-is n ∙ ap (λ c. cond c (Some task) None) e;
+        says = λ unended. subst (λ k. marks.TaskSays r.board r.tree.tasks task k) so (subst (λ g. IsGoing g) (sym r.fresh.new.alone.goes) tt);
+      }
+  begun-tasks n m false e is = on (same_name before.owner u) refl
+    where
+      before : IsTaskPiece old n m
+      before = all.tasks n m (sym (r.root.others n (apart-of n root e)) ∙ is)
 
-        on : (c : Bool) → same_name before.owner u ≡ c → IsTaskPiece s n m
-        on true o = let no : None ≡ Some before.tree = sym none ∙ ap (λ q. named q old.attempts) (sym (same_name-equal before.owner u o)) ∙ before.attempt in cc
-        on false o = record {
-          owner = before.owner;
-          of = owner-of n ∙ ap (λ c. cond c (Some u) (named n old.owners)) e ∙ before.of;
-          tree = before.tree;
-          attempt = attempt-of before.owner ∙ ap (λ c. cond c (Some r.tree) (named before.owner old.attempts)) o ∙ before.attempt;
-          task = before.task;
-          among = before.among;
-          says = λ unended. task-again old.board r.board before.tree.tasks before.tree.tasks before.task m (λ f waits. come-again old.board r.board before.tree.tasks before.task f (begun f)) (before.says unended);
-        }
+      on : (c : Bool) → same_name before.owner u ≡ c → IsTaskPiece s n m
+      on true o = let no : None ≡ Some before.tree = sym none ∙ ap (λ q. named q old.attempts) (sym (same_name-equal before.owner u o)) ∙ before.attempt in cc
+      on false o = record {
+        owner = before.owner;
+        of = owner-of n ∙ ap (λ c. cond c (Some u) (named n old.owners)) e ∙ before.of;
+        tree = before.tree;
+        attempt = attempt-of before.owner ∙ ap (λ c. cond c (Some r.tree) (named before.owner old.attempts)) o ∙ before.attempt;
+        task = before.task;
+        among = before.among;
+        says = λ unended. task-again old.board r.board before.tree.tasks before.tree.tasks before.task m (λ f waits. come-again old.board r.board before.tree.tasks before.task f (begun f)) (before.says unended);
+      }
 
-    begun-actors : (a : Name) (z : Actor) (c : Bool) → same_name a root ≡ c → piece_at r.board a ≡ Some (piece.Actor z) → z.mark ≡ actor_mark z.state.busy (mail_at old.mails a)
-    begun-actors a z true e is = let no : Some (piece.Task (mark.Ready work.Eval)) ≡ Some (piece.Actor z) = sym (ap (piece_at r.board) (same_name-equal a root e) ∙ r.root.here) ∙ is in cc
-    begun-actors a z false e is = all.actors a z (sym (r.root.others a (apart-of a root e)) ∙ is)
+  begun-actors : (a : Name) (z : Actor) (c : Bool) → same_name a root ≡ c → piece_at r.board a ≡ Some (piece.Actor z) → z.mark ≡ actor_mark (has_turn old.taken a z.state) (mail_at old.mails a)
+  begun-actors a z true e is = let no : Some (piece.Task (mark.Ready work.Eval)) ≡ Some (piece.Actor z) = sym (ap (piece_at r.board) (same_name-equal a root e) ∙ r.root.here) ∙ is in cc
+  begun-actors a z false e is = all.actors a z (sym (r.root.others a (apart-of a root e)) ∙ is)
 
-    begun-pieces : (v : Name) (tree : Attempt) (c : Bool) → same_name v u ≡ c → named v s.attempts ≡ Some tree → (n : Name) (t : Task) → named n tree.tasks ≡ Some t → HasPiece s v n
-    begun-pieces v tree true e is n t among = on (same_name n root) refl
-      where
-        same : r.tree ≡ tree
-        same = let both : Some r.tree ≡ Some tree = sym (attempt-of v ∙ ap (λ c. cond c (Some r.tree) (named v old.attempts)) e) ∙ is in cc
+  begun-pieces : (v : Name) (tree : Attempt) (c : Bool) → same_name v u ≡ c → named v s.attempts ≡ Some tree → (n : Name) (t : Task) → named n tree.tasks ≡ Some t → HasPiece s v n
+  begun-pieces v tree true e is n t among = on (same_name n root) refl
+    where
+      same : r.tree ≡ tree
+      same = let both : Some r.tree ≡ Some tree = sym (attempt-of v ∙ ap (λ c. cond c (Some r.tree) (named v old.attempts)) e) ∙ is in cc
 
-        on : (c : Bool) → same_name n root ≡ c → HasPiece s v n
-        on true f = record {
-          mark = mark.Ready work.Eval;
-          there = ap (piece_at r.board) (same_name-equal n root f) ∙ r.root.here;
-          of = owner-of n ∙ ap (λ c. cond c (Some u) (named n old.owners)) f ∙ ap (λ q. Some q) (sym (same_name-equal v u e));
-        }
-        on false f = let no : None ≡ Some t = sym (task-is n ∙ ap (λ c. cond c (Some task) None) f) ∙ ap (λ (a : Attempt). named n a.tasks) same ∙ among in cc
-    begun-pieces v tree false e is n t among = record {
-      mark = has.mark;
-      there = r.root.others n other ∙ has.there;
-      of = owner-of n ∙ ap (λ c. cond c (Some u) (named n old.owners)) (differs (same_name n root) refl) ∙ has.of;
-    }
-      where
-        has : HasPiece old v n
-        has = all.pieces v tree (sym (attempt-of v ∙ ap (λ c. cond c (Some r.tree) (named v old.attempts)) e) ∙ is) n t among
+      on : (c : Bool) → same_name n root ≡ c → HasPiece s v n
+      on true f = record {
+        mark = mark.Ready work.Eval;
+        there = ap (piece_at r.board) (same_name-equal n root f) ∙ r.root.here;
+        of = owner-of n ∙ ap (λ c. cond c (Some u) (named n old.owners)) f ∙ ap (λ q. Some q) (sym (same_name-equal v u e));
+      }
+      on false f = let no : None ≡ Some t = sym (task-is n ∙ ap (λ c. cond c (Some task) None) f) ∙ ap (λ (a : Attempt). named n a.tasks) same ∙ among in cc
+  begun-pieces v tree false e is n t among = record {
+    mark = has.mark;
+    there = r.root.others n other ∙ has.there;
+    of = owner-of n ∙ ap (λ c. cond c (Some u) (named n old.owners)) (differs (same_name n root) refl) ∙ has.of;
+  }
+    where
+      has : HasPiece old v n
+      has = all.pieces v tree (sym (attempt-of v ∙ ap (λ c. cond c (Some r.tree) (named v old.attempts)) e) ∙ is) n t among
 
-        other : n ≡ root → ⊥
-        other same = let no : None ≡ Some (piece.Task has.mark) = sym r.none ∙ ap (piece_at old.board) (sym same) ∙ has.there in cc
+      other : n ≡ root → ⊥
+      other same = let no : None ≡ Some (piece.Task has.mark) = sym r.none ∙ ap (piece_at old.board) (sym same) ∙ has.there in cc
 
-        differs : (c : Bool) → same_name n root ≡ c → same_name n root ≡ false
-        differs true f = absurd (other (same_name-equal n root f))
-        differs false f = f
+      differs : (c : Bool) → same_name n root ≡ c → same_name n root ≡ false
+      differs true f = absurd (other (same_name-equal n root f))
+      differs false f = f
 
-    begun-but : AreMarkedBut u false s
-    begun-but = record {
-      units = λ v z other is. begun-units v z (same_name v root) refl other is;
-      tasks = λ n m other is. let so = begun-tasks n m (same_name n root) refl is in record { owner = so.owner; of = so.of; tree = so.tree; attempt = so.attempt; task = so.task; among = so.among; says = λ unended why. so.says unended };
-      actors = λ a z is. begun-actors a z (same_name a root) refl is;
-      pieces = λ v tree is n t among. begun-pieces v tree (same_name v u) refl is n t among;
-    }
+  begun-but : AreMarkedBut u false s
+  begun-but = record {
+    units = λ v z other is. begun-units v z (same_name v root) refl other is;
+    tasks = λ n m other is. let so = begun-tasks n m (same_name n root) refl is in record { owner = so.owner; of = so.of; tree = so.tree; attempt = so.attempt; task = so.task; among = so.among; says = λ unended why. so.says unended };
+    actors = λ a z is. begun-actors a z (same_name a root) refl is;
+    pieces = λ v tree is n t among. begun-pieces v tree (same_name v u) refl is n t among;
+  }
 
-    apart-root : u ≡ root → ⊥
-    apart-root same = let no : None ≡ Some (piece.Unit x) = sym r.none ∙ ap (piece_at old.board) (sym same) ∙ unit-piece old.board u x at_u in cc
+  apart-root : u ≡ root → ⊥
+  apart-root same = let no : None ≡ Some (piece.Unit x) = sym r.none ∙ ap (piece_at old.board) (sym same) ∙ unit-piece old.board u x at_u in cc
 
-    same-attempts : new.attempts ≡ s.attempts
-    same-attempts = r.attempts
+  -- no task stood under its name
+  no-task-then : (k : Mark) → piece_at old.board u ≡ Some (piece.Task k) → ⊥
+  no-task-then k is = let no : Some (piece.Unit x) ≡ Some (piece.Task k) = sym (unit-piece old.board u x at_u) ∙ is in cc
 
-    pub begins-marked : AreMarked new
-    begins-marked = marked-set s new u (piece.Unit r.waits.unit) (mark.Waiting (wait.Finish root)) (record {
-      set = r.waits.set;
-      setup = ap (λ (k : Shared). k.setup) r.others;
-      attempts = r.attempts;
-      owners = r.owners;
-      mails = λ a. ap (λ (k : Shared). mail_at k.mails a) r.others;
-      unfinished = λ e. ap (λ p. option_and_then (λ (k : UnitState). k.finished) (option_map unit_state (option_and_then unit_in p))) r.waits.set.here ∙ ap finished_by r.waits.stands.mark;
-      no_root = λ e. cc;
-      stays = λ k is. absurd (no-task k (sym (r.root.others u apart-root) ∙ is));
-      unit = λ y e. let same : r.waits.unit ≡ y = cc in subst (λ m. UnitSays new u y m) (sym (ap (λ (k : Doing). k.mark) (sym same) ∙ r.waits.stands.mark))
-          (marks.root r.tree (ap (named u) r.attempts ∙ attempt-of u ∙ ap (λ c. cond c (Some r.tree) (named u old.attempts)) (same_name-itself u)) r.fresh.new.root_is);
-      task = λ k e. cc;
-      actor = λ a e. cc;
-    }) begun-but
+  -- the unit has the attempt, and its mark is right then
+  pub begun-marked : says_finished m ≡ false → (named u new.attempts ≡ Some r.tree → (y : Doing) → UnitSays new u y m) → AreMarked new
+  begun-marked unended says = marked-set s new u (piece.Unit r.waits.unit) m (record {
+    set = r.waits.set;
+    setup = ap (λ (k : Shared). k.setup) r.others;
+    attempts = r.attempts;
+    owners = r.owners;
+    aheads = λ v other. ap (λ (k : Shared). named v k.aheads) r.others;
+    taken = ap (λ (k : Shared). k.taken) r.others;
+    mails = λ a. ap (λ (k : Shared). mail_at k.mails a) r.others;
+    unfinished = λ e. ap (λ p. option_and_then (λ (k : UnitState). k.finished) (option_map unit_state (option_and_then unit_in p))) r.waits.set.here ∙ ap finished_by r.waits.stands.mark ∙ unfinished-mark m unended;
+    no_root = λ e. let no : true ≡ false = sym e ∙ unended in cc;
+    stays = λ k is. absurd (no-task-then k (sym (r.root.others u apart-root) ∙ is));
+    unit = λ y e. let same : r.waits.unit ≡ y = cc in subst (λ k. UnitSays new u y k) (sym (ap (λ (k : Doing). k.mark) (sym same) ∙ r.waits.stands.mark)) (says has y);
+    task = λ k e. cc;
+    actor = λ a e. cc;
+  }) (subst (λ c. AreMarkedBut u c s) (sym unended) begun-but)
+    where
+      has : named u new.attempts ≡ Some r.tree
+      has = ap (named u) r.attempts ∙ attempt-of u ∙ ap (λ c. cond c (Some r.tree) (named u old.attempts)) (same_name-itself u)
 
 -- the end of a run says nothing of marks
 pub ends-going : (old : Shared) (entry : Entry) (e : End) (found : Given) (new : Shared) → EndsBy old entry e found new → is_going new.end ≡ true → ⊥
@@ -352,7 +377,7 @@ ends-going old entry e found new r on_going = let no : false ≡ true = sym (ap 
 -- what a unit comes to
 module _ (old : Shared) (st : Stands old) (all : AreMarked old) (u : Name) (x : Doing) (here : IsHere old u (unit_state x)) (at_u : unit_at old.board u ≡ Some x) (found : Given) (new : Shared) (on_going : is_going new.end ≡ true) where
   same : IsSameButActors old old
-  same = same-but old old (record { setup = refl; attempts = λ v. refl; owners = refl; pieces = λ n. refl; mails = λ a. refl }) all
+  same = same-but old old (record { setup = refl; attempts = λ v. refl; owners = refl; aheads = refl; taken = refl; pieces = λ n. refl; mails = λ a. refl }) all
 
   marked-derefs : (v : Option Value) → AsksElse old x → Derefs old u x v found new → AreMarked new
   marked-derefs None other r = absurd r
@@ -367,7 +392,8 @@ module _ (old : Shared) (st : Stands old) (all : AreMarked old) (u : Name) (x : 
   marked-forks body values at false asks r = forks old st all u x here at_u (λ b vs spot e. let no = sym asks ∙ e in cc) body values found new r
 
   marked-tries : (body : NodeId) (values : List Value) (at : Spot) (o : Option Attempt) → named u old.attempts ≡ o → Tries old u x body values at o found new → AreMarked new
-  marked-tries body values at None is r = begins-marked old st all u x here at_u body values at is found new r
+  marked-tries body values at None is r = begun-marked old all u x at_u (mark.Waiting (wait.Finish (next_made u (unit_state x)))) body values at is found new r refl
+      (λ has y. marks.root (ap (λ (s : Shared). can_settle s u) r.others ∙ ap (settles_next old.taken) here.level) r.tree has r.fresh.new.root_is)
   marked-tries body values at (Some tree) is r = absurd r
 
   marked-becomes : (behaviour : ℕ) (state : List Value) (at : Spot) (o : Option Name) → AsksElse old x → Becomes old u x behaviour state at o found new → AreMarked new
@@ -378,13 +404,13 @@ module _ (old : Shared) (st : Stands old) (all : AreMarked old) (u : Name) (x : 
   marked-selves at None other r = absurd (ends-going old _ _ found new r on_going)
   marked-selves at (Some actor) other r = goes-on old st all u x here at_u other old _ found new same r
 
-  marked-finishes : (v : Value) (o : Option Name) → AsksElse old x → Finishes old u x v o found new → AreMarked new
-  marked-finishes v None other r = goes-on old st all u x here at_u other old _ found new same r
-  marked-finishes v (Some actor) other r = finishes-turn old st all u x here at_u other actor v found new r
+  marked-finishes : (v : Value) (o : Option Name) → actor_of x.kind ≡ o → AsksElse old x → Finishes old u x v o found new → AreMarked new
+  marked-finishes v None of other r = goes-on old st all u x here at_u other old _ found new same r
+  marked-finishes v (Some actor) of other r = finishes-turn old st all u x here at_u other actor v of found new r
 
   pub marked-unit : (h : Halt) → next_of old.setup (unit_state x) ≡ h → UnitGives old u x h found new → AreMarked new
-  marked-unit (halt.Ask (request.Print text) at) asks r = goes-on old st all u x here at_u (λ b vs spot e. let no = sym asks ∙ e in cc) (record old { bytes = old.bytes ++ text }) _ found new (same-but old _ (record { setup = refl; attempts = λ v. refl; owners = refl; pieces = λ n. refl; mails = λ a. refl }) all) r
-  marked-unit (halt.Ask (request.NewRef v) at) asks r = goes-on old st all u x here at_u (λ b vs spot e. let no = sym asks ∙ e in cc) _ _ found new (same-but old _ (record { setup = refl; attempts = λ v. refl; owners = refl; pieces = λ n. refl; mails = λ a. refl }) all) r
+  marked-unit (halt.Ask (request.Print text) at) asks r = goes-on old st all u x here at_u (λ b vs spot e. let no = sym asks ∙ e in cc) (record old { bytes = old.bytes ++ text }) _ found new (same-but old _ (record { setup = refl; attempts = λ v. refl; owners = refl; aheads = refl; taken = refl; pieces = λ n. refl; mails = λ a. refl }) all) r
+  marked-unit (halt.Ask (request.NewRef v) at) asks r = goes-on old st all u x here at_u (λ b vs spot e. let no = sym asks ∙ e in cc) _ _ found new (same-but old _ (record { setup = refl; attempts = λ v. refl; owners = refl; aheads = refl; taken = refl; pieces = λ n. refl; mails = λ a. refl }) all) r
   marked-unit (halt.Ask (request.Deref ref) at) asks r = marked-derefs (ref_now old.versions ref) (λ b vs spot e. let no = sym asks ∙ e in cc) r
   marked-unit (halt.Ask (request.RefSet ref v) at) asks r = absurd (ends-going old _ _ found new r on_going)
   marked-unit (halt.Ask (request.Fork body values) at) asks r = marked-forks body values at (old.made == old.setup.limits.units) asks r
@@ -394,6 +420,6 @@ module _ (old : Shared) (st : Stands old) (all : AreMarked old) (u : Name) (x : 
   marked-unit (halt.Ask (request.Send to args) at) asks r = sends old st all u x here at_u (λ b vs spot e. let no = sym asks ∙ e in cc) to args found new r
   marked-unit (halt.Ask (request.Become behaviour state) at) asks r = marked-becomes behaviour state at (actor_of x.kind) (λ b vs spot e. let no = sym asks ∙ e in cc) r
   marked-unit (halt.Ask request.SelfActor at) asks r = marked-selves at (actor_of x.kind) (λ b vs spot e. let no = sym asks ∙ e in cc) r
-  marked-unit (halt.Value v) asks r = marked-finishes v (actor_of x.kind) (λ b vs spot e. let no = sym asks ∙ e in cc) r
+  marked-unit (halt.Value v) asks r = marked-finishes v (actor_of x.kind) refl (λ b vs spot e. let no = sym asks ∙ e in cc) r
   marked-unit (halt.Fault failed at) asks r = absurd (ends-going old _ _ found new r on_going)
   marked-unit halt.Spent asks r = absurd (ends-going old _ _ found new r on_going)

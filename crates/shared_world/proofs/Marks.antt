@@ -1,5 +1,5 @@
 -- How the marks stay right.
-use Rattle.std.proofs.Common.{◌≡◌, ◌∙◌, ◌⊎◌, Bool, true, false, cond, inl, inr, refl, sym, ap, subst}
+use Rattle.std.proofs.Common.{◌≡◌, ◌∙◌, ◌⊎◌, Bool, true, false, cond, inl, inr, refl, sym, ap, ap₂, subst}
 use Rattle.std.specs.Option.{option_and_then, option_map}
 use Rattle.std.specs.Prelude.{List, [], ◌∷◌, Option, None, Some, if◌then◌else◌}
 use Rattle.actor_mailbox.specs.declared.message.Message.{Message}
@@ -12,9 +12,10 @@ use Rattle.shared_world.proofs.Besides.{IsWas, WasTask, WasUnit, apart-of, was-a
 use Rattle.shared_world.proofs.States.{beside-same}
 use Rattle.shared_world.specs.Marks as marks
 use Rattle.shared_world.specs.Marks.{AreMarked, HasMarks, HasPiece, IsTaskPiece, IsToCome, TaskSays, UnitSays, UnitWaits}
-use Rattle.shared_world.specs.rows.Actors.{actor_mark}
+use Rattle.shared_world.specs.rows.Actors.{actor_mark, has_turn}
+use Rattle.shared_world.specs.rows.Leading.{can_settle, settles_next}
 use Rattle.shared_world.specs.rows.Pieces.{IsSet}
-use Rattle.shared_world.specs.Shared.{Shared, finished_at, is_going, unit_state}
+use Rattle.shared_world.specs.Shared.{Shared, finished_at, finished_by, is_going, unit_state}
 use Rattle.task_fork_join.specs.Attempt.{Attempt, end_at}
 use Rattle.task_fork_join.specs.declared.task.Task.{Task}
 use Rattle.unit_table.specs.Board.{Board, SamePieces, piece_at, unit_at}
@@ -46,37 +47,56 @@ none-root o None is e = refl
 none-root None (Some tree) is e = absurd is
 none-root (Some tree) (Some after) is e = cc
 
+-- What is kept of a unit beside its piece stays, but for what its attempt did: whether and how it runs ahead.
+pub record IsStill (old new : Shared) (u : Name) : Type 0 where
+  pub root : SameRoot (named u old.attempts) (named u new.attempts)
+  pub ahead : named u new.aheads ≡ named u old.aheads
+  pub settles : can_settle new u ≡ can_settle old u
+
+-- so it is where the same message is taken of each actor, and the same runs ahead
+pub same-settles : (old new : Shared) (u : Name) → named u new.aheads ≡ named u old.aheads → new.taken ≡ old.taken → can_settle new u ≡ can_settle old u
+same-settles old new u ahead taken = ap₂ (λ messages h. settles_next messages h) taken ahead
+
 -- what a unit waits for is still to come
-pub unit-waits : (old new : Shared) (u : Name) (x : Doing) (f : Name) → new.setup ≡ old.setup → SameRoot (named u old.attempts) (named u new.attempts) → (finished_at old.board f ≡ None → finished_at new.board f ≡ None)
+pub unit-waits : (old new : Shared) (u : Name) (x : Doing) (f : Name) → new.setup ≡ old.setup → IsStill old new u → (finished_at old.board f ≡ None → finished_at new.board f ≡ None)
     → UnitWaits old u x f → UnitWaits new u x f
-unit-waits old new u x f setup same over (marks.root tree there is) = on (named u new.attempts) refl (subst (λ o. SameRoot o (named u new.attempts)) there same)
+unit-waits old new u x f setup still over (marks.root not_yet tree there is) = on (named u new.attempts) refl (subst (λ o. SameRoot o (named u new.attempts)) there still.root)
   where
     on : (o : Option Attempt) → named u new.attempts ≡ o → SameRoot (Some tree) o → UnitWaits new u x f
     on None e s = absurd s
-    on (Some after) e s = marks.root after e (s ∙ is)
-unit-waits old new u x f setup same over (marks.join none at asks unfinished) =
-    marks.join (none-root (named u old.attempts) (named u new.attempts) same none) at (subst (λ (s : Setup). next_of s (unit_state x) ≡ halt.Ask (request.Join f) at) (sym setup) asks) (over unfinished)
+    on (Some after) e s = marks.root (still.settles ∙ not_yet) after e (s ∙ is)
+unit-waits old new u x f setup still over (marks.join level none at asks unfinished) =
+    marks.join (still.ahead ∙ level) (none-root (named u old.attempts) (named u new.attempts) still.root none) at (subst (λ (s : Setup). next_of s (unit_state x) ≡ halt.Ask (request.Join f) at) (sym setup) asks) (over unfinished)
+
+-- what a mark says is not finished has no value
+pub unfinished-mark : (m : Mark) → says_finished m ≡ false → finished_by m ≡ None
+unfinished-mark (mark.Ready work) e = refl
+unfinished-mark (mark.Waiting on) e = refl
+unfinished-mark mark.Resting e = refl
+unfinished-mark (mark.Finished v) e = cc
+unfinished-mark mark.Dropped e = refl
 
 -- the mark of a unit that stays says the same
-pub unit-again : (old new : Shared) (u : Name) (x : Doing) (m : Mark) → new.setup ≡ old.setup → SameRoot (named u old.attempts) (named u new.attempts)
+pub unit-again : (old new : Shared) (u : Name) (x : Doing) (m : Mark) → new.setup ≡ old.setup → IsStill old new u
     → ((f : Name) → m ≡ mark.Waiting (wait.Finish f) → finished_at old.board f ≡ None → finished_at new.board f ≡ None) → UnitSays old u x m → UnitSays new u x m
-unit-again old new u x (mark.Ready work.Eval) setup same over is = none-root (named u old.attempts) (named u new.attempts) same is
-unit-again old new u x (mark.Ready work.Settle) setup same over is = none-root (named u old.attempts) (named u new.attempts) same is
-unit-again old new u x (mark.Ready work.Begin) setup same over is = absurd is
-unit-again old new u x (mark.Waiting (wait.Finish f)) setup same over is = unit-waits old new u x f setup same (over f refl) is
-unit-again old new u x (mark.Waiting (wait.Definite t)) setup same over is = absurd is
-unit-again old new u x mark.Resting setup same over is = absurd is
-unit-again old new u x (mark.Finished v) setup same over is = none-root (named u old.attempts) (named u new.attempts) same is
-unit-again old new u x mark.Dropped setup same over is = absurd is
+unit-again old new u x (mark.Ready work.Eval) setup still over is = none-root (named u old.attempts) (named u new.attempts) still.root is
+unit-again old new u x (mark.Ready work.Settle) setup still over (inl none) = inl (none-root (named u old.attempts) (named u new.attempts) still.root none)
+unit-again old new u x (mark.Ready work.Settle) setup still over (inr settles) = inr (still.settles ∙ settles)
+unit-again old new u x (mark.Ready work.Begin) setup still over is = absurd is
+unit-again old new u x (mark.Waiting (wait.Finish f)) setup still over is = unit-waits old new u x f setup still (over f refl) is
+unit-again old new u x (mark.Waiting (wait.Definite t)) setup still over is = (is.0, record { ahead = is.1.ahead; leads = still.ahead ∙ is.1.leads; not_yet = still.settles ∙ is.1.not_yet })
+unit-again old new u x mark.Resting setup still over is = absurd is
+unit-again old new u x (mark.Finished v) setup still over is = none-root (named u old.attempts) (named u new.attempts) still.root is
+unit-again old new u x mark.Dropped setup still over is = absurd is
 
 -- it says the same of a unit that stands where that one stands
 pub unit-like : (s : Shared) (u : Name) (x y : Doing) (m : Mark) → unit_state y ≡ unit_state x → UnitSays s u x m → UnitSays s u y m
 unit-like s u x y (mark.Ready work.Eval) same is = is
 unit-like s u x y (mark.Ready work.Settle) same is = is
 unit-like s u x y (mark.Ready work.Begin) same is = absurd is
-unit-like s u x y (mark.Waiting (wait.Finish f)) same (marks.root tree there is) = marks.root tree there is
-unit-like s u x y (mark.Waiting (wait.Finish f)) same (marks.join none at asks unfinished) = marks.join none at (ap (next_of s.setup) same ∙ asks) unfinished
-unit-like s u x y (mark.Waiting (wait.Definite t)) same is = absurd is
+unit-like s u x y (mark.Waiting (wait.Finish f)) same (marks.root not_yet tree there is) = marks.root not_yet tree there is
+unit-like s u x y (mark.Waiting (wait.Finish f)) same (marks.join level none at asks unfinished) = marks.join level none at (ap (next_of s.setup) same ∙ asks) unfinished
+unit-like s u x y (mark.Waiting (wait.Definite t)) same is = is
 unit-like s u x y mark.Resting same is = absurd is
 unit-like s u x y (mark.Finished v) same is = is
 unit-like s u x y mark.Dropped same is = absurd is
@@ -108,8 +128,8 @@ pub record IsTaskPieceBut (name : Name) (ends : Bool) (s : Shared) (n : Name) (m
   pub says : end_at tree ≡ None → (ends ≡ true → m ≡ mark.Waiting (wait.Finish name) → ⊥) → TaskSays s.board tree.tasks task m
 
 -- the mark of each actor is right
-abbrev pub ActorsAreMarked : Board → Mail → Type 0
-ActorsAreMarked b mails = (a : Name) (x : Actor) → piece_at b a ≡ Some (piece.Actor x) → x.mark ≡ actor_mark x.state.busy (mail_at mails a)
+abbrev pub ActorsAreMarked : Shared → Type 0
+ActorsAreMarked s = (a : Name) (x : Actor) → piece_at s.board a ≡ Some (piece.Actor x) → x.mark ≡ actor_mark (has_turn s.taken a x.state) (mail_at s.mails a)
 
 -- an actor whose mark is right waits for no finish
 pub actor-awaits : (name : Name) (busy : Bool) (mail : List Message) → is_for name (awaited (actor_mark busy mail)) ≡ false
@@ -122,7 +142,7 @@ actor-awaits name false (m ∷ ms) = refl
 pub record AreMarkedBut (name : Name) (ends : Bool) (s : Shared) : Type 0 where
   pub units : (u : Name) (x : Doing) → (u ≡ name → ⊥) → unit_at s.board u ≡ Some x → UnitSays s u x x.mark
   pub tasks : (n : Name) (m : Mark) → (n ≡ name → ⊥) → piece_at s.board n ≡ Some (piece.Task m) → IsTaskPieceBut name ends s n m
-  pub actors : ActorsAreMarked s.board s.mails
+  pub actors : ActorsAreMarked s
   pub pieces : (u : Name) (tree : Attempt) → named u s.attempts ≡ Some tree → (n : Name) (t : Task) → named n tree.tasks ≡ Some t → HasPiece s u n
 
 -- where the same attempts, pieces and mail are there
@@ -130,6 +150,8 @@ pub record IsSameMarked (old new : Shared) : Type 0 where
   pub setup : new.setup ≡ old.setup
   pub attempts : (v : Name) → named v new.attempts ≡ named v old.attempts
   pub owners : new.owners ≡ old.owners
+  pub aheads : new.aheads ≡ old.aheads
+  pub taken : new.taken ≡ old.taken
   pub pieces : SamePieces old.board new.board
   pub mails : SameMail old.mails new.mails
 
@@ -143,8 +165,10 @@ pub record IsSameButActors (old new : Shared) : Type 0 where
   pub setup : new.setup ≡ old.setup
   pub attempts : (v : Name) → named v new.attempts ≡ named v old.attempts
   pub owners : new.owners ≡ old.owners
+  pub aheads : new.aheads ≡ old.aheads
+  pub settles : (v : Name) → can_settle new v ≡ can_settle old v
   pub pieces : (n : Name) → but_actor (piece_at new.board n) ≡ but_actor (piece_at old.board n)
-  pub actors : ActorsAreMarked new.board new.mails
+  pub actors : ActorsAreMarked new
 
 -- so the same units and tasks are there
 unit-but : (found : Option Piece) → option_and_then unit_in (but_actor found) ≡ option_and_then unit_in found
@@ -183,8 +207,11 @@ task-piece-same old new n m same is = record {
 }
 
 unit-same : (old new : Shared) (u : Name) (x : Doing) → IsSameButActors old new → UnitSays old u x x.mark → UnitSays new u x x.mark
-unit-same old new u x same is = unit-again old new u x x.mark same.setup (subst (λ o. SameRoot (named u old.attempts) o) (sym (same.attempts u)) (same-root (named u old.attempts)))
-    (λ f e none. same-finished old new same f ∙ none) is
+unit-same old new u x same is = unit-again old new u x x.mark same.setup (record {
+  root = subst (λ o. SameRoot (named u old.attempts) o) (sym (same.attempts u)) (same-root (named u old.attempts));
+  ahead = ap (named u) same.aheads;
+  settles = same.settles u;
+}) (λ f e none. same-finished old new same f ∙ none) is
 
 has-same : (old new : Shared) (u n : Name) → IsSameButActors old new → HasPiece old u n → HasPiece new u n
 has-same old new u n same is = record { mark = is.mark; there = task-still old new same n is.mark is.there; of = ap (named n) same.owners ∙ is.of }
@@ -202,8 +229,10 @@ same-but old new same all = record {
   setup = same.setup;
   attempts = same.attempts;
   owners = same.owners;
+  aheads = same.aheads;
+  settles = λ v. same-settles old new v (ap (named v) same.aheads) same.taken;
   pieces = λ n. ap but_actor (same.pieces n);
-  actors = λ a x there. all.actors a x (sym (same.pieces a) ∙ there) ∙ ap (actor_mark x.state.busy) (sym (same.mails a));
+  actors = λ a x there. all.actors a x (sym (same.pieces a) ∙ there) ∙ sym (ap₂ (λ taken mail. actor_mark (has_turn taken a x.state) mail) same.taken (same.mails a));
 }
 
 pub marked-same : (old new : Shared) → IsSameMarked old new → AreMarked old → AreMarked new
@@ -223,6 +252,8 @@ pieces-marks old new same rest marks going = marked-same old new (record {
   setup = ap (λ (s : Shared). s.setup) rest;
   attempts = λ v. ap (λ (s : Shared). named v s.attempts) rest;
   owners = ap (λ (s : Shared). s.owners) rest;
+  aheads = ap (λ (s : Shared). s.aheads) rest;
+  taken = ap (λ (s : Shared). s.taken) rest;
   pieces = same;
   mails = λ a. ap (λ (s : Shared). mail_at s.mails a) rest;
 }) (marks (sym (ap (λ (s : Shared). is_going s.end) rest) ∙ going))
@@ -234,13 +265,15 @@ pub record IsRightSet (s new : Shared) (name : Name) (p : Piece) (m : Mark) : Ty
   pub setup : new.setup ≡ s.setup
   pub attempts : new.attempts ≡ s.attempts
   pub owners : new.owners ≡ s.owners
+  pub aheads : (v : Name) → (v ≡ name → ⊥) → named v new.aheads ≡ named v s.aheads
+  pub taken : new.taken ≡ s.taken
   pub mails : SameMail s.mails new.mails
   pub unfinished : says_finished m ≡ false → finished_at new.board name ≡ None
   pub no_root : says_finished m ≡ true → (v : Name) (tree : Attempt) → named v s.attempts ≡ Some tree → tree.root ≡ name → ⊥
   pub stays : (k : Mark) → piece_at s.board name ≡ Some (piece.Task k) → p ≡ piece.Task m
   pub unit : (x : Doing) → p ≡ piece.Unit x → UnitSays new name x x.mark
   pub task : (k : Mark) → p ≡ piece.Task k → IsTaskPiece new name k
-  pub actor : (x : Actor) → p ≡ piece.Actor x → x.mark ≡ actor_mark x.state.busy (mail_at new.mails name)
+  pub actor : (x : Actor) → p ≡ piece.Actor x → x.mark ≡ actor_mark (has_turn new.taken name x.state) (mail_at new.mails name)
 
 module _ (s new : Shared) (name : Name) (p : Piece) (m : Mark) (is : IsRightSet s new name p m) (all : AreMarkedBut name (says_finished m) s) where
   -- elsewhere the same is finished
@@ -251,8 +284,12 @@ module _ (s new : Shared) (name : Name) (p : Piece) (m : Mark) (is : IsRightSet 
       on true e = let same : f ≡ name = same_name-equal f name e in ap (finished_at new.board) same ∙ is.unfinished (why same)
       on false e = ap (option_and_then (λ (k : UnitState). k.finished)) (ap (λ q. option_map unit_state (option_and_then unit_in q)) (is.set.others f (apart-of f name e)) ∙ beside-same name m (piece_at s.board f)) ∙ none
 
-  roots : (u : Name) → SameRoot (named u s.attempts) (named u new.attempts)
-  roots u = subst (λ o. SameRoot (named u s.attempts) o) (sym (ap (named u) is.attempts)) (same-root (named u s.attempts))
+  still : (u : Name) → (u ≡ name → ⊥) → IsStill s new u
+  still u other = record {
+    root = subst (λ o. SameRoot (named u s.attempts) o) (sym (ap (named u) is.attempts)) (same-root (named u s.attempts));
+    ahead = is.aheads u other;
+    settles = same-settles s new u (is.aheads u other) is.taken;
+  }
 
   units : (u : Name) (z : Doing) (c : Bool) → same_name u name ≡ c → unit_at new.board u ≡ Some z → UnitSays new u z z.mark
   units u z true e there =
@@ -277,12 +314,12 @@ module _ (s new : Shared) (name : Name) (p : Piece) (m : Mark) (is : IsRightSet 
       on : IsWas name m was.unit.mark z.mark → UnitSays new u z z.mark
       on (inl w) =
           let same : z ≡ was.unit = was.same ∙ ap (λ k. record was.unit { mark = k }) w.0 in
-          subst (λ (k : Doing). UnitSays new u k k.mark) (sym same) (unit-again s new u was.unit was.unit.mark is.setup (roots u) (λ f e none. over f (λ here. w.1 (e ∙ ap (λ q. mark.Waiting (wait.Finish q)) here)) none) before)
-      on (inr w) = subst (λ k. UnitSays new u z k) (sym w.1) (ap (named u) is.attempts ∙ none (subst (λ k. UnitSays s u was.unit k) w.0 before))
+          subst (λ (k : Doing). UnitSays new u k k.mark) (sym same) (unit-again s new u was.unit was.unit.mark is.setup (still u other) (λ f e none. over f (λ here. w.1 (e ∙ ap (λ q. mark.Waiting (wait.Finish q)) here)) none) before)
+      on (inr w) = subst (λ k. UnitSays new u z k) (sym w.1) (inl (ap (named u) is.attempts ∙ none (subst (λ k. UnitSays s u was.unit k) w.0 before)))
         where
           none : UnitWaits s u was.unit name → named u s.attempts ≡ None
-          none (marks.root tree at root) = absurd (is.no_root w.2 u tree at root)
-          none (marks.join gone at asks unfinished) = gone
+          none (marks.root not_yet tree at root) = absurd (is.no_root w.2 u tree at root)
+          none (marks.join level gone at asks unfinished) = gone
 
   owner-same : (n : Name) → named n new.owners ≡ named n s.owners
   owner-same n = ap (named n) is.owners
@@ -317,16 +354,16 @@ module _ (s new : Shared) (name : Name) (p : Piece) (m : Mark) (is : IsRightSet 
           (before.says unended (λ ends waits. let no : true ≡ false = sym ends ∙ w.1 waits in cc)))
       on unended (inr w) = subst (λ j. TaskSays new.board before.tree.tasks before.task j) (sym w.1) tt
 
-  actors : (a : Name) (x : Actor) (c : Bool) → same_name a name ≡ c → piece_at new.board a ≡ Some (piece.Actor x) → x.mark ≡ actor_mark x.state.busy (mail_at new.mails a)
+  actors : (a : Name) (x : Actor) (c : Bool) → same_name a name ≡ c → piece_at new.board a ≡ Some (piece.Actor x) → x.mark ≡ actor_mark (has_turn new.taken a x.state) (mail_at new.mails a)
   actors a x true e there =
       let same : a ≡ name = same_name-equal a name e in
       let both : Some p ≡ Some (piece.Actor x) = sym is.set.here ∙ ap (piece_at new.board) (sym same) ∙ there in
       let so : p ≡ piece.Actor x = cc in
-      is.actor x so ∙ ap (λ q. actor_mark x.state.busy (mail_at new.mails q)) (sym same)
-  actors a x false e there = all.actors a x (was-actor name m (piece_at s.board a) x plain (sym (is.set.others a (apart-of a name e)) ∙ there)) ∙ ap (actor_mark x.state.busy) (sym (is.mails a))
+      is.actor x so ∙ ap (λ q. actor_mark (has_turn new.taken q x.state) (mail_at new.mails q)) (sym same)
+  actors a x false e there = all.actors a x (was-actor name m (piece_at s.board a) x plain (sym (is.set.others a (apart-of a name e)) ∙ there)) ∙ sym (ap₂ (λ taken mail. actor_mark (has_turn taken a x.state) mail) is.taken (is.mails a))
     where
       plain : (y : Actor) → piece_at s.board a ≡ Some (piece.Actor y) → is_for name (awaited y.mark) ≡ false
-      plain y at = ap (λ k. is_for name (awaited k)) (all.actors a y at) ∙ actor-awaits name y.state.busy (mail_at s.mails a)
+      plain y at = ap (λ k. is_for name (awaited k)) (all.actors a y at) ∙ actor-awaits name (has_turn s.taken a y.state) (mail_at s.mails a)
 
   pieces : (u n : Name) (c : Bool) → same_name n name ≡ c → HasPiece s u n → HasPiece new u n
   pieces u n true e has = let same : n ≡ name = same_name-equal n name e in record {

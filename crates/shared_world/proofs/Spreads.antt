@@ -19,7 +19,7 @@ use Rattle.serial_model.specs.Step.{next_made, next_of}
 use Rattle.shared_world.specs.declared.given.Given.{Given}
 use Rattle.shared_world.specs.declared.given.Given.TheVariants as given
 use Rattle.shared_world.specs.Gave.{GaveTask, GaveUnit}
-use Rattle.shared_world.specs.rows.Actors.{acted, roused, spawned}
+use Rattle.shared_world.specs.rows.Actors.{acted, roused_unless, spawned}
 use Rattle.shared_world.specs.rows.Attempts.{Aborts, IsWithout, TasksGo}
 use Rattle.shared_world.specs.rows.Pieces.{Ends, IsSet, Settles, task_gone}
 use Rattle.shared_world.specs.rows.Tasks as row
@@ -75,11 +75,12 @@ beside-open u m found = on (says_finished m) found
     on true None is = is
     on true (Some p) is = woken-open u p is
 
-roused-open : (found : Option Piece) → holds_at goes_on (option_map roused found) ≡ true → holds_at goes_on found ≡ true
-roused-open None is = is
-roused-open (Some (piece.Unit x)) is = is
-roused-open (Some (piece.Task m)) is = is
-roused-open (Some (piece.Actor a)) is = is
+roused-open : (begun : Bool) (found : Option Piece) → holds_at goes_on (roused_unless begun found) ≡ true → holds_at goes_on found ≡ true
+roused-open true found is = is
+roused-open false None is = is
+roused-open false (Some (piece.Unit x)) is = is
+roused-open false (Some (piece.Task m)) is = is
+roused-open false (Some (piece.Actor a)) is = is
 
 gone-open : (c : Bool) (found : Option Piece) → holds_at goes_on (cond c (task_gone found) found) ≡ true → holds_at goes_on found ≡ true
 gone-open false found is = is
@@ -128,10 +129,10 @@ go-opens u y tree old new go was n is = on (same_name n u) refl
     on true e = subst (λ k. is_unfinished old k ≡ true) (sym (same_name-equal n u e)) was
     on false e = gone-open (is_some (named n tree.tasks)) (piece_at old n) (ap (holds_at goes_on) (sym (go.others n (apart-of n u e))) ∙ is)
 
-acted-opens : (state : Option ActorState) (sent : List (List Value)) (mail : _) (found : Option Piece) → holds_at goes_on (acted state sent mail found) ≡ true → holds_at goes_on found ≡ true
-acted-opens (Some state) sent mail found is = never is
-acted-opens None [] mail found is = is
-acted-opens None (args ∷ more) mail found is = roused-open found is
+acted-opens : (begun : Bool) (state : Option ActorState) (sent : List (List Value)) (mail : _) (found : Option Piece) → holds_at goes_on (acted begun state sent mail found) ≡ true → holds_at goes_on found ≡ true
+acted-opens begun (Some state) sent mail found is = never is
+acted-opens begun None [] mail found is = is
+acted-opens begun None (args ∷ more) mail found is = roused-open begun found is
 
 -- ---- what an answer spreads
 -- An entry that is settled is of that unit. A unit that is not finished was not before, but for the one that is made where an entry is
@@ -246,16 +247,17 @@ module _ (old : Shared) (u : Name) (x : Unit) (was : is_unfinished old.board u �
   spawns-put base after p attempts none put shut r =
       settles-put base after (next_made u (unit_state x)) p attempts put (λ e. never (sym shut ∙ e)) (λ e. not-at (next_made u (unit_state x)) None none refl e) r
 
-  sends-put : (base : Shared) (after : _) (to : Name) → base.attempts ≡ old.attempts → IsPutAt to (option_map roused (piece_at old.board to)) old.board base.board → Settles base u x after found new → Spread
+  sends-put : (base : Shared) (after : _) (to : Name) → base.attempts ≡ old.attempts → IsPutAt to (roused_unless (is_some (named to old.taken)) (piece_at old.board to)) old.board base.board → Settles base u x after found new → Spread
   sends-put base after to attempts put r =
-      settles-put base after to _ attempts put (λ e. roused-open (piece_at old.board to) e)
-      (λ e. keeps (piece_at old.board to) (ap (λ n. holds_at goes_on (piece_at old.board n)) (sym (same_name-equal u to e)) ∙ was)) r
+      settles-put base after to _ attempts put (λ e. roused-open (is_some (named to old.taken)) (piece_at old.board to) e)
+      (λ e. keeps (is_some (named to old.taken)) (piece_at old.board to) (ap (λ n. holds_at goes_on (piece_at old.board n)) (sym (same_name-equal u to e)) ∙ was)) r
     where
-      keeps : (found : Option Piece) → holds_at goes_on found ≡ true → holds_at goes_on (option_map roused found) ≡ true
-      keeps None is = is
-      keeps (Some (piece.Unit y)) is = is
-      keeps (Some (piece.Task m)) is = is
-      keeps (Some (piece.Actor a)) is = is
+      keeps : (begun : Bool) (found : Option Piece) → holds_at goes_on found ≡ true → holds_at goes_on (roused_unless begun found) ≡ true
+      keeps true found is = is
+      keeps false None is = is
+      keeps false (Some (piece.Unit y)) is = is
+      keeps false (Some (piece.Task m)) is = is
+      keeps false (Some (piece.Actor a)) is = is
 
   becomes-spread : (behaviour : _) (state : _) (at : _) (actor : Option Name) → Becomes old u x behaviour state at actor found new → Spread
   becomes-spread behaviour state at None r = ends-spread _ r
@@ -338,7 +340,7 @@ module _ (base : Shared) (u : Name) (x : Unit) (was : is_unfinished base.board u
   end-spread (end.Value v) r = record {
     entry = of-unit u found r.found_is;
     opens = none-opens-then base.board r.board new.board (go-opens u r.unit tree base.board r.board r.goes.tasks was)
-        (λ n is. acted-opens (spawned r.log.log.effects n) (effects_to n r.log.log.effects) _ (piece_at r.board n) (ap (holds_at goes_on) (sym (r.acts.pieces n)) ∙ is));
+        (λ n is. acted-opens (is_some (named n base.taken)) (spawned r.log.log.effects n) (effects_to n r.log.log.effects) _ (piece_at r.board n) (ap (holds_at goes_on) (sym (r.acts.pieces n)) ∙ is));
     tries = gone-tries r.goes.attempts;
   }
   end-spread (end.Fault code at) r = task-ends-spread _ r

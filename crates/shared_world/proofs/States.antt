@@ -4,7 +4,7 @@ use Rattle.std.specs.Option.{option_and_then, option_map}
 use Rattle.std.specs.Prelude.{Option, None, Some}
 use Rattle.eval_step.specs.Evaluation.{Evaluation}
 use Rattle.serial_model.specs.State.{UnitState}
-use Rattle.shared_world.specs.rows.Actors.{roused}
+use Rattle.shared_world.specs.rows.Actors.{roused, roused_unless}
 use Rattle.shared_world.specs.rows.Pieces.{IsSet, task_gone}
 use Rattle.shared_world.specs.Shared.{finished_by, state_at, unit_state}
 use Rattle.unit_table.specs.Board.{Board, IsPutAt, SamePieces, piece_at, unit_at}
@@ -190,3 +190,11 @@ roused-unit None = refl
 roused-unit (Some (piece.Unit x)) = refl
 roused-unit (Some (piece.Task m)) = refl
 roused-unit (Some (piece.Actor a)) = refl
+
+-- whether it is roused or not
+pub roused-is : (c : Bool) (found : Option Piece) → option_and_then unit_in (roused_unless c found) ≡ option_and_then unit_in found
+roused-is true found = refl
+roused-is false found = roused-unit found
+
+pub roused-state : (c : Bool) (found : Option Piece) → option_map unit_state (option_and_then unit_in (roused_unless c found)) ≡ option_map unit_state (option_and_then unit_in found)
+roused-state c found = ap (option_map unit_state) (roused-is c found)

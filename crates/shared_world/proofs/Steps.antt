@@ -21,7 +21,7 @@ use Rattle.shared_world.specs.Seen.{AttemptSeen}
 use Rattle.shared_world.specs.Shared.{Shared, finished_at, is_going, state_at}
 use Rattle.shared_world.specs.Stands.{IsMachine, IsUnderWay, Stands, start_of}
 use Rattle.task_fork_join.proofs.Steps.{steps_keep_runs}
-use Rattle.task_fork_join.specs.Attempt.{Attempt, going, machine_of}
+use Rattle.task_fork_join.specs.Attempt.{Attempt, going, machine_at, machine_of}
 use Rattle.task_fork_join.specs.declared.stepped.Stepped.{Stepped}
 use Rattle.task_fork_join.specs.declared.task.Stage.{Stage as KeptStage}
 use Rattle.task_fork_join.specs.declared.task.Stage.TheVariants as kept
@@ -41,22 +41,24 @@ use Rattle.value_core.specs.Place.{Spot}
 use Rattle.world_model.specs.World as world
 use Rattle.world_model.specs.World.{World}
 
--- a task that goes on with that machine
+-- a task that has not ended and has that machine
 pub record GoesWith (tree : Attempt) (name : Name) (machine : Evaluation) : Type 0 where
   pub task : Task
   pub there : named name tree.tasks ≡ Some task
-  pub stage : task.stage ≡ kept.Going machine
+  pub keeps : machine_at task.stage ≡ Some machine
 
 pub goes-with : (tree : Attempt) (name : Name) (machine : Evaluation) → machine_of tree name ≡ Some machine → GoesWith tree name machine
 goes-with tree name machine is = on (named name tree.tasks) refl is
   where
-    by-stage : (t : Task) (s : KeptStage) → t.stage ≡ s → named name tree.tasks ≡ Some t → going (record t { stage = s }) ≡ Some machine → GoesWith tree name machine
-    by-stage t (kept.Going m) e there so = let eq : m ≡ machine = cc in record { task = t; there = there; stage = e ∙ ap kept.Going eq }
-    by-stage t (kept.Ended ended) e there so = cc
-
     on : (found : Option Task) → named name tree.tasks ≡ found → option_and_then going found ≡ Some machine → GoesWith tree name machine
     on None there e = cc
-    on (Some t) there e = by-stage t t.stage refl there e
+    on (Some t) there e = record { task = t; there = there; keeps = e }
+
+-- the machine of a task that has not ended is one of its transaction
+machine-of : (start : Start) (stage : KeptStage) (machine : Evaluation) → machine_at stage ≡ Some machine → HasMachine start stage → IsTaskMachine start machine
+machine-of start (kept.Going m) machine e is = let same : m ≡ machine = cc in subst (IsTaskMachine start) same is
+machine-of start (kept.Closing closing) machine e is = let same : closing.machine ≡ machine = cc in subst (IsTaskMachine start) same is.machine
+machine-of start (kept.Ended ended) machine e is = cc
 
 -- a body that is asked for is in the table
 there-at : (start : Start) (h : Halt) → ((asked : Request) (at : Spot) → h ≡ halt.Ask asked at → IsThere start.program true asked) → IsThereAt start h
@@ -104,7 +106,7 @@ module _ (old : Shared) (st : Stands old) (on_going : is_going old.end ≡ true)
     with_machine = goes-with tree task machine is
 
     member : IsTaskMachine start machine
-    member = subst (HasMachine start) with_machine.stage (way.runs.members task with_machine.task with_machine.there).machine
+    member = machine-of start with_machine.task.stage machine with_machine.keeps (way.runs.members task with_machine.task with_machine.there).machine
 
     stops : next old.setup.program moved.body moved.values true moved.answers old.setup.limits.fuel ≡ next old.setup.program machine.body machine.values machine.inside machine.answers machine.fuel
     stops =
@@ -135,7 +137,7 @@ module _ (old : Shared) (st : Stands old) (on_going : is_going old.end ≡ true)
         asks = way.asks;
         runs = subst (λ n. IsRun start way.at (snapshot_of old.versions n) (finished_at old.board) after) (sym step.stays.snapshot)
             (steps_keep_runs start way.at (snapshot_of old.versions tree.snapshot) (finished_at old.board) (snapshot_of old.versions tree.snapshot) tree after task moved (outer_of old.board halts) halts went
-            way.runs (record { task = with_machine.task; there = with_machine.there; machine = machine; going = with_machine.stage; same = same }) moves (finished-as old.board halts) (λ ref. refl) step);
+            way.runs (record { task = with_machine.task; there = with_machine.there; machine = machine; going = with_machine.keeps; same = same }) moves (finished-as old.board halts) (λ ref. refl) step);
         within = subst (λ n. n ≤ length old.history) (sym step.stays.snapshot) way.within;
       }
 

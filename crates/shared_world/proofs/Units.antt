@@ -1,7 +1,7 @@
 -- What a unit comes to keeps what is kept standing.
 use Rattle.std.proofs.Common.{◌≡◌, ◌∙◌, ◌≤◌, ℕ, suc, ◌==◌, Bool, true, false, cond, length, length-append, List, [], ◌∷◌, ◌++◌, refl, sym, ap, subst, arith}
 use Rattle.std.specs.Option.{option_and_then, option_map, option_or}
-use Rattle.std.specs.Prelude.{Option, None, Some}
+use Rattle.std.specs.Prelude.{Option, None, Some, is_some}
 use Rattle.actor_mailbox.specs.declared.message.Message.{Message}
 use Rattle.actor_mails.specs.Mails.{Mail, mail_at}
 use Rattle.core_syntax.specs.declared.node_id.NodeId.{NodeId}
@@ -19,17 +19,17 @@ use Rattle.serial_model.specs.State.{UnitState, new_unit}
 use Rattle.serial_model.specs.Step.{after_turn, answered, becoming, idle, next_made, next_of, with_made}
 use Rattle.shared_world.specs.declared.given.Given.{Given}
 use Rattle.shared_world.specs.rows.Pieces.{Ends, IsMarkedUnit, IsSet, IsUnitAt, Settles, mark_after}
-use Rattle.shared_world.specs.rows.Actors.{FinishesTurn, Sends, Spawns, actor_mark, actor_with, roused}
+use Rattle.shared_world.specs.rows.Actors.{FinishesTurn, Sends, Spawns, actor_mark, actor_with, roused_unless}
 use Rattle.shared_world.specs.rows.Units.{Becomes, Derefs, Finishes, ForksIfAllowed, Joins, Selves, Tries, UnitGives}
 use Rattle.shared_world.specs.Seen.{AttemptSeen}
-use Rattle.shared_world.proofs.ActorPieces.{SameActors, actor-no-unit, actor-put, actor_of_piece, actors-put, actors-set, not-same, roused-actor, unit-no-actor}
+use Rattle.shared_world.proofs.ActorPieces.{SameActors, actor-no-unit, actor-put, actor_of_piece, actors-put, actors-set, not-same, roused-same, unit-no-actor}
 use Rattle.shared_world.specs.Shared.{Shared, actor_of, finished_at, is_going, ref_now, state_at, unit_state}
 use Rattle.shared_world.specs.Stands.{IsMachine, Stands}
 use Rattle.shared_world.proofs.Leading.{ahead-still, asks-no-attempt, finished-is-level, leads-apart, level-there, live_on, none-leads, seen-here, seen-same}
 use Rattle.shared_world.proofs.Live.{no-piece}
 use Rattle.shared_world.specs.Ahead.{Ahead}
 use Rattle.shared_world.proofs.Standing.{Grows, above-next, ended, one-version, same-states, stands-next}
-use Rattle.shared_world.proofs.States.{EachMachine, SameStates, machines-put, machines-set, roused-unit, states-put, unit-put, unit-set}
+use Rattle.shared_world.proofs.States.{EachMachine, SameStates, machines-put, machines-set, roused-is, roused-state, states-put, unit-put, unit-set}
 use Rattle.task_fork_join.specs.Attempt.{Attempt}
 use Rattle.txn_snapshot.specs.SnapshotAnswer.{snapshot_of}
 use Rattle.unit_table.specs.Board.{Board, actor_at, piece_at, unit_at}
@@ -376,12 +376,12 @@ module _ (old : Shared) (st : Stands old) (u : Name) (x : Unit) (here : IsHere o
 
       base : IsBase r.board
       base = record {
-        states = states-put to (option_map roused (piece_at old.board to)) old.board r.board (ap (option_map unit_state) (roused-unit (piece_at old.board to))) r.rouses;
-        machines = machines-put (IsMachine old.setup) to (option_map roused (piece_at old.board to)) old.board r.board (λ z e. st.machines to z (sym (roused-unit (piece_at old.board to)) ∙ e)) r.rouses st.machines;
+        states = states-put to (roused_unless (is_some (named to old.taken)) (piece_at old.board to)) old.board r.board (roused-state (is_some (named to old.taken)) (piece_at old.board to)) r.rouses;
+        machines = machines-put (IsMachine old.setup) to (roused_unless (is_some (named to old.taken)) (piece_at old.board to)) old.board r.board (λ z e. st.machines to z (sym (roused-is (is_some (named to old.taken)) (piece_at old.board to)) ∙ e)) r.rouses st.machines;
       }
 
       actors : SameActors old.board r.board
-      actors = actors-put to (option_map roused (piece_at old.board to)) old.board r.board (roused-actor (piece_at old.board to)) r.rouses
+      actors = actors-put to (roused_unless (is_some (named to old.taken)) (piece_at old.board to)) old.board r.board (roused-same (is_some (named to old.taken)) (piece_at old.board to)) r.rouses
 
       mails : (a : Name) (c : Bool) → same_name a to ≡ c → cond c (w.mails to ++ message ∷ []) (w.mails a) ≡ mail_at r.mails a
       mails a true e = ap (λ ms. ms ++ message ∷ []) (st.seen.mails to) ∙ sym r.mailed.here ∙ ap (mail_at r.mails) (sym (same_name-equal a to e))

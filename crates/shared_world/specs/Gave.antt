@@ -4,6 +4,7 @@ use Rattle.serial_model.specs.Step.{next_of}
 use Rattle.shared_world.specs.declared.given.Given.{Given}
 use Rattle.shared_world.specs.declared.given.Given.TheVariants as given
 use Rattle.shared_world.specs.Returned.{IsLive, Returned}
+use Rattle.shared_world.specs.rows.Leading.{GaveLead, GaveTentative}
 use Rattle.shared_world.specs.rows.Pieces.{ClaimsEnd}
 use Rattle.shared_world.specs.rows.Tasks.{TaskGives}
 use Rattle.shared_world.specs.rows.Turns.{GaveActor}
@@ -59,3 +60,5 @@ pub data Gave (old : Shared) (result : Returned) (found : Given) (new : Shared) 
   unit : (name : Name) → IsLive old result name → GaveUnit old name found new → Gave old result found new
   task : (name : Name) → IsLive old result name → GaveTask old name found new → Gave old result found new
   actor : (name : Name) → IsLive old result name → GaveActor old name found new → Gave old result found new
+  lead : (name : Name) → IsLive old result name → GaveLead old name result.work found new → Gave old result found new
+  tentative : (name : Name) → IsLive old result name → GaveTentative old name found new → Gave old result found new

@@ -14,12 +14,10 @@ use Rattle.shared_world.specs.HeldUp.{IsHeldUp}
 use Rattle.shared_world.specs.Marks.{HasMarks}
 use Rattle.shared_world.specs.Opening.{IsOpening}
 use Rattle.shared_world.specs.Rest.{IsAtRest}
-use Rattle.shared_world.specs.rows.Leading.{GaveLead, GaveTentative}
 use Rattle.shared_world.specs.Returned.{Returned}
 use Rattle.shared_world.specs.Shared.{Shared, is_going, ready}
 use Rattle.shared_world.specs.Stands.{Stands}
 use Rattle.unit_table.specs.Board.{piece_at}
-use Rattle.unit_table.specs.declared.mark.Work.{Work}
 use Rattle.unit_table.specs.declared.piece.Piece.{Piece}
 use Rattle.value_core.specs.Named.{Name}
 
@@ -65,10 +63,3 @@ AttemptsAge = (old new : Shared) (result : Returned) (found : Given) → Stands 
 -- in a run from main alone the attempts of a unit are undone at most as often as entries are settled
 abbrev pub AbortsAreFew : Type 0
 AbortsAreFew = (setup : Setup) (first last : Shared) (answers : List Given) → IsWellFormed setup.program → IsOpening setup first → Runs first answers last → (u : Name) → undone_among u answers ≤ length last.history
-
--- What a turn that runs ahead comes to leaves what is kept standing, and so does a turn that is begun ahead.
-abbrev pub LeadKeeps : Type 0
-LeadKeeps = (old new : Shared) (name : Name) (claimed : Work) (found : Given) → Stands old → old.end ≡ None → GaveLead old name claimed found new → Stands new
-
-abbrev pub TentativeKeeps : Type 0
-TentativeKeeps = (old new : Shared) (name : Name) (found : Given) → Stands old → old.end ≡ None → GaveTentative old name found new → Stands new

@@ -1,10 +1,12 @@
 -- What the marks of pieces say, while the run goes on.
-use Rattle.std.specs.Prelude.{◌≡◌, true, None, Some}
+use Rattle.std.specs.Prelude.{◌≡◌, ◌⊎◌, false, true, None, Some}
 use Rattle.actor_mails.specs.Mails.{mail_at}
 use Rattle.serial_model.specs.declared.halt.Halt.TheVariants as halt
 use Rattle.serial_model.specs.declared.request.Request.TheVariants as request
 use Rattle.serial_model.specs.Step.{next_of}
-use Rattle.shared_world.specs.rows.Actors.{actor_mark}
+use Rattle.shared_world.specs.Ahead.{Ahead}
+use Rattle.shared_world.specs.rows.Actors.{actor_mark, has_turn}
+use Rattle.shared_world.specs.rows.Leading.{can_settle}
 use Rattle.shared_world.specs.Shared.{Shared, finished_at, is_going, unit_state}
 use Rattle.task_fork_join.specs.Attempt.{Attempt, end_at, end_of}
 use Rattle.task_fork_join.specs.declared.task.Task.{Task}
@@ -20,16 +22,25 @@ use Rattle.unit_table.specs.declared.unit.Unit.{Unit as Doing}
 use Rattle.value_core.specs.Named.{Name, Named, named}
 use Rattle.value_core.specs.Place.{Spot}
 
--- A unit waits for the root of its attempt; where it has none, it asks for the value of a unit that is not finished.
+-- A unit waits for the root of its attempt, unless it holds something that can be settled; where it has none and stands where the
+-- history left it, it asks for the value of a unit that is not finished.
 pub data UnitWaits (s : Shared) (u : Name) (x : Doing) (f : Name) : Type 0 where
-  root : (tree : Attempt) → named u s.attempts ≡ Some tree → tree.root ≡ f → UnitWaits s u x f
-  join : named u s.attempts ≡ None → (at : Spot) → next_of s.setup (unit_state x) ≡ halt.Ask (request.Join f) at → finished_at s.board f ≡ None → UnitWaits s u x f
+  root : can_settle s u ≡ false → (tree : Attempt) → named u s.attempts ≡ Some tree → tree.root ≡ f → UnitWaits s u x f
+  join : named u s.aheads ≡ None → named u s.attempts ≡ None → (at : Spot) → next_of s.setup (unit_state x) ≡ halt.Ask (request.Join f) at → finished_at s.board f ≡ None → UnitWaits s u x f
 
--- a unit that can do something, or is finished, has no attempt
+-- a turn that runs ahead and is not definite
+pub record IsTentative (s : Shared) (u : Name) : Type 0 where
+  pub ahead : Ahead
+  pub leads : named u s.aheads ≡ Some ahead
+  pub not_yet : can_settle s u ≡ false
+
+-- A unit that can do something, or is finished, has no attempt, unless it holds something that can be settled; a turn waits until
+-- it is definite, while it is not.
 abbrev pub UnitSays : Shared → Name → Doing → Mark → Type 0
 UnitSays s u x (mark.Ready work.Eval) = named u s.attempts ≡ None
-UnitSays s u x (mark.Ready work.Settle) = named u s.attempts ≡ None
+UnitSays s u x (mark.Ready work.Settle) = (named u s.attempts ≡ None) ⊎ (can_settle s u ≡ true)
 UnitSays s u x (mark.Waiting (wait.Finish f)) = UnitWaits s u x f
+UnitSays s u x (mark.Waiting (wait.Definite turn)) = (turn ≡ u) × IsTentative s u
 UnitSays s u x (mark.Finished v) = named u s.attempts ≡ None
 UnitSays s u x _ = ⊥
 
@@ -72,7 +83,7 @@ pub record HasPiece (s : Shared) (u n : Name) : Type 0 where
 pub record AreMarked (s : Shared) : Type 0 where
   pub units : (u : Name) (x : Doing) → unit_at s.board u ≡ Some x → UnitSays s u x x.mark
   pub tasks : (n : Name) (m : Mark) → piece_at s.board n ≡ Some (piece.Task m) → IsTaskPiece s n m
-  pub actors : (a : Name) (x : Actor) → piece_at s.board a ≡ Some (piece.Actor x) → x.mark ≡ actor_mark x.state.busy (mail_at s.mails a)
+  pub actors : (a : Name) (x : Actor) → piece_at s.board a ≡ Some (piece.Actor x) → x.mark ≡ actor_mark (has_turn s.taken a x.state) (mail_at s.mails a)
   pub pieces : (u : Name) (tree : Attempt) → named u s.attempts ≡ Some tree → (n : Name) (t : Task) → named n tree.tasks ≡ Some t → HasPiece s u n
 
 -- once the run has ended nothing is said of them

@@ -1,5 +1,5 @@
 //! Laws of the world as it is kept.
-ghost use Rattle.shared_world.specs.Laws.{AbortsAreFew, AbortsAreLate, AttemptsAge, GaveAppends, GaveKeeps, GaveMarks, LeadKeeps, OpeningMarks, OpeningStands, OthersAreReady, OverAtRest, TentativeKeeps};
+ghost use Rattle.shared_world.specs.Laws.{AbortsAreFew, AbortsAreLate, AttemptsAge, GaveAppends, GaveKeeps, GaveMarks, OpeningMarks, OpeningStands, OthersAreReady, OverAtRest};
 
 /// Whatever a result that is given back comes to, what is kept stands for the replay of its history afterwards.
 pub fn gave_keeps()
@@ -50,14 +50,4 @@ pub fn attempts_age()
 /// In a run the attempts of a unit are undone at most as often as entries are settled.
 pub fn aborts_are_few()
     ensures { AbortsAreFew }
-{}
-
-/// Whatever a turn comes to that runs ahead of the history, what is kept stands for the replay of its history afterwards.
-pub fn lead_keeps()
-    ensures { LeadKeeps }
-{}
-
-/// An actor that begins a turn on a message that is not settled leaves what is kept standing.
-pub fn tentative_keeps()
-    ensures { TentativeKeeps }
 {}

@@ -1,20 +1,20 @@
 -- The joins at the value of a task.
-use Rattle.std.proofs.Common.{◌≡◌, ◌∙◌, ℕ, zero, suc, ◌≤◌, ◌<◌, ◌+◌, Bool, true, false, cond, List, [], ◌∷◌, ◌++◌, refl, sym, ap, subst, Option, Some, None, arith}
+use Rattle.std.proofs.Common.{◌≡◌, ◌∙◌, ℕ, zero, suc, ◌≤◌, ◌<◌, ◌+◌, ◌-◌, Bool, true, false, cond, List, [], ◌∷◌, ◌++◌, refl, sym, ap, subst, Option, Some, None, arith}
 use Rattle.std.specs.Prelude.{◌||◌}
 use Rattle.eval_step.specs.Evaluation.{Evaluation}
 use Rattle.serial_model.proofs.standing.KnownTasks.{matches_same}
 use Rattle.serial_model.proofs.standing.Requests as step
 use Rattle.serial_model.proofs.standing.Requests.{task_at}
 use Rattle.serial_model.specs.declared.halt.Halt.TheVariants as halt
+use Rattle.serial_model.specs.Eval.{next}
 use Rattle.serial_model.specs.Log.{Log, merged}
 use Rattle.serial_model.specs.Standing.{Closing, EachTask, Ended, Going, IsAt, Stage, Start, is_there}
 use Rattle.serial_model.specs.Task.{Around, Result}
 use Rattle.task_fork_join.proofs.Joins.{bad, child_at, merged_so, not_there, of_both}
-use Rattle.task_fork_join.proofs.Members.{among_both, stepped}
+use Rattle.task_fork_join.proofs.Members.{among_both, stepped, StandsAt}
 use Rattle.task_fork_join.proofs.Members as members
-use Rattle.task_fork_join.proofs.Replying.{waited}
-use Rattle.task_fork_join.specs.Attempt.{Attempt, levels_below, outcome_of, stage_of, tasks_of, tree_task, IsKept}
-use Rattle.task_fork_join.specs.Closing.{Goes, to_join, AllWent, ArePartsOf, CameClose, IsClose, IsFinished, IsWent, StopsAt, WentAt, WentBy}
+use Rattle.task_fork_join.specs.Attempt.{Attempt, levels_below, outcome_of, stage_of, tasks_of, tree_task}
+use Rattle.task_fork_join.specs.Closing.{Goes, AllWent, ArePartsOf, CameClose, IsFinished, IsHeld, IsWent, StopsAt, WentAt, WentBy}
 use Rattle.task_fork_join.specs.declared.closing.Went.{Went}
 use Rattle.task_fork_join.specs.declared.closing.Went.TheVariants as went
 use Rattle.task_fork_join.specs.declared.stepped.Stepped.{Stepped}
@@ -28,15 +28,58 @@ use Rattle.task_fork_join.specs.declared.task_end.TaskEnd.TheVariants as end
 use Rattle.task_fork_join.specs.Joining.{known_in, IsMerged, IsNoValue}
 use Rattle.task_fork_join.specs.Running.{HasMachine, IsMember, IsMove, IsRun}
 use Rattle.task_fork_join.specs.Step.{Stays}
+use Rattle.task_fork_join.specs.Stepping.{HasParts}
 use Rattle.txn_snapshot.specs.SnapshotTask.{SnapshotTask, AreAmong}
 use Rattle.value_core.proofs.NamedViews.{view_found}
 use Rattle.value_core.specs.declared.value.Value.{Value as Datum}
 use Rattle.task_fork_join.specs.Knowledge.{Knowledge, is_known}
-use Rattle.value_core.specs.Named.{Name, Named, is_among, made_by, named}
+use Rattle.value_core.specs.Named.{Name, Named, is_among, made_by, named, IsChanged}
 use Rattle.value_core.specs.Place.{Spot}
 
-module _ (start : Start) (at : Spot) (base finished : Name → Option Datum) (old new : Attempt) (name : Name) (moved : Evaluation) (run : IsRun start at base finished old) (is : IsKept name moved old.tasks) (stays_so : Stays old new)
-    (reads_are : new.reads ≡ old.reads) (v : Datum) (move : IsMove start moved (halt.Value v)) (before : Parts) (of : ArePartsOf is.task before) where
+-- so many things were passed, and this is the number of the next one
+pub record HasPassed (tasks : Named Task) (from : ℕ) (old : Parts) (number : ℕ) (new : Parts) : Type 0 where
+  pub count : ℕ
+  pub at : number ≡ from + count
+  pub within : count ≤ old.log.log.made - from
+  pub goes : Goes tasks from old count new
+
+pub none_passed : (tasks : Named Task) (from : ℕ) (old : Parts) → HasPassed tasks from old from old
+none_passed tasks from old = record { count = 0; at = omega arith; within = omega arith; goes = refl }
+
+pub one_passed : (tasks : Named Task) (from number : ℕ) (old mid new : Parts) (found : Went) → HasPassed tasks from old number mid → number < old.log.log.made → IsWent tasks number mid new found → found ≡ went.On
+    → HasPassed tasks from old (number + 1) new
+one_passed tasks from number old mid new found is less it on =
+    let at = is.at in record {
+      count = suc is.count;
+      at = omega arith;
+      within = omega arith;
+      goes = (mid, (is.goes, subst (λ n. IsWent tasks n mid new went.On) is.at (subst (IsWent tasks number mid new) on it)));
+    }
+
+pub stops_there : (tasks : Named Task) (from number : ℕ) (old mid new : Parts) (found other : Went) → HasPassed tasks from old number mid → number < old.log.log.made → IsWent tasks number mid new found → found ≡ other
+    → StopsAt tasks from old new other
+stops_there tasks from number old mid new found other is less it so =
+    let at = is.at in record {
+      count = is.count;
+      mid = mid;
+      goes = is.goes;
+      more = omega arith;
+      last = subst (λ n. IsWent tasks n mid new other) is.at (subst (IsWent tasks number mid new) so it);
+    }
+
+-- where no thing is left, all were passed
+pub all_passed : (tasks : Named Task) (from number : ℕ) (old new : Parts) → HasPassed tasks from old number new → ¬ (number < old.log.log.made) → AllWent tasks from old new went.On
+all_passed tasks from number old new is none =
+    let at = is.at in
+    let within = is.within in
+    let all : is.count ≡ old.log.log.made - from = omega (arith, at, within, none) in
+    subst (λ n. Goes tasks from old n new) all is.goes
+
+module _ (start : Start) (at : Spot) (base finished : Name → Option Datum) (old new : Attempt) (name : Name) (moved : Evaluation) (was : Stage) (run : IsRun start at base finished old) (is : StandsAt name was old.tasks) (stays_so : Stays old new)
+    (reads_are : new.reads ≡ old.reads) (v : Datum) (move : IsMove start moved (halt.Value v)) (from : ℕ) (before : Parts) (of : ArePartsOf is.task before)
+    (begun : (around : Around) (results : Name → Result) → next around.program moved.body moved.values true moved.answers around.fuel ≡ halt.Value v
+    → IsAt around results name (task_at (levels_below is.task.log.depth) is.task.log.base is.task.knows.keys is.task.log.log was)
+    → IsAt around results name (task_at (levels_below is.task.log.depth) is.task.log.base is.task.knows.keys is.task.log.log (Closing v from))) where
   abbrev t : Task
   t = is.task
 
@@ -55,11 +98,11 @@ module _ (start : Start) (at : Spot) (base finished : Name → Option Datum) (ol
     actor_is : parts.log.actor ≡ t.log.actor
     knows_in : (g : Name) → is_known parts.knows g ≡ true → is_there (tasks_of tasks) g ≡ true
     reads_in : AreAmong parts.log.reads old.reads
-    stands : (around : Around) (results : Name → Result) → EachTask (IsAt around results) (tasks_of tasks) → At around results before (Closing v 0) → At around results parts stage
+    stands : (around : Around) (results : Name → Result) → EachTask (IsAt around results) (tasks_of tasks) → At around results before (Closing v from) → At around results parts stage
 
   abbrev After : ℕ → Parts → Went → Type 0
   After k parts went.On = IsSound parts (Closing v (k + 1))
-  After k parts (went.Waits future) = Unit {0}
+  After k parts (went.Waits future next) = IsSound parts (Closing v next)
   After k parts (went.Ended e) = IsSound parts (Ended (outcome_of e))
 
   -- it stands further on, and else nothing changes
@@ -124,8 +167,12 @@ module _ (start : Start) (at : Spot) (base finished : Name → Option Datum) (ol
           (λ around results each at_it. step.closes_badly around results name (levels_below t.log.depth) t.log.base mid.knows.keys mid.log.log v k at_it more known apart
           (levels_below child.log.depth) child.log.base child.knows.keys child.log.log (outcome_of e) (bad e others) (child_at around results tasks future child e each there stage))))
 
-      went_at : (stage : KeptStage) (parts : Parts) (found : Went) → child.stage ≡ stage → WentAt stage future child mid parts found → After k parts found
-      went_at (kept.Going machine) parts found stage so = subst (After k parts) (sym so.1) tt
+      waits : (parts : Parts) (found : Went) → (parts ≡ mid) × (found ≡ went.Waits future k) → After k parts found
+      waits parts found so = subst (After k parts) (sym so.1) (subst (λ p. IsSound p (Closing v k)) (sym so.0) sound)
+
+      went_at : (stage : KeptStage) (parts : Parts) (found : Went) → child.stage ≡ stage → WentAt stage future k child mid parts found → After k parts found
+      went_at (kept.Going machine) parts found stage so = waits parts found so
+      went_at (kept.Closing closing) parts found stage so = waits parts found so
       went_at (kept.Ended (end.Value w)) parts found stage so = subst (After k parts) (sym so.1) (merges w parts stage so.0)
       went_at (kept.Ended (end.Fault code place)) parts found stage so = ends_badly (end.Fault code place) parts found tt stage so
       went_at (kept.Ended end.Spent) parts found stage so = ends_badly end.Spent parts found tt stage so
@@ -134,62 +181,75 @@ module _ (start : Start) (at : Spot) (base finished : Name → Option Datum) (ol
     went_so parts found it = on (is_among future mid.log.log.joined) (is_known mid.knows future) (named future tasks) refl refl refl it
       where
         on : (joined knows : Bool) (child : Option Task) → is_among future mid.log.log.joined ≡ joined → is_known mid.knows future ≡ knows → named future tasks ≡ child
-            → WentBy (cond joined None (cond knows child None)) future mid parts found → After k parts found
+            → WentBy (cond joined None (cond knows child None)) future k mid parts found → After k parts found
         on true knows child among known there so = passes parts found (joined_before among) so
         on false false child apart none there so = passes parts found (unknown none) so
         on false true None apart known none so = absurd (let here = sound.knows_in future known in let lost = not_there tasks future none in cc)
         on false true (Some child) apart known there so = went_at apart known child there child.stage parts found refl so
 
   -- ---- all joins
-  goes_so : IsSound before (Closing v 0) → (k : ℕ) (parts : Parts) → k ≤ t.log.log.made → Goes tasks before k parts → IsSound parts (Closing v k)
-  goes_so first zero parts within same = subst (λ p. IsSound p (Closing v 0)) (sym same) first
-  goes_so first (suc k) parts within so =
-      subst (λ n. IsSound parts (Closing v n)) one (went_so k so.0 (goes_so first k so.0 (omega arith) so.1.0) (omega arith) parts went.On so.1.1)
+  goes_so : IsSound before (Closing v from) → (count : ℕ) (parts : Parts) → count ≤ t.log.log.made - from → Goes tasks from before count parts → IsSound parts (Closing v (from + count))
+  goes_so first zero parts within same = subst (λ n. IsSound parts (Closing v n)) none (subst (λ p. IsSound p (Closing v from)) (sym same) first)
     where
-      one : k + 1 ≡ suc k
+      none : from ≡ from + 0
+      none = omega arith
+  goes_so first (suc count) parts within so =
+      subst (λ n. IsSound parts (Closing v n)) one (went_so (from + count) so.0 (goes_so first count so.0 (omega arith) so.1.0) (omega arith) parts went.On so.1.1)
+    where
+      one : (from + count) + 1 ≡ from + suc count
       one = omega arith
 
-  first_so : IsSound before (Closing v 0)
+  first_so : IsSound before (Closing v from)
   first_so = record {
     name_is = ap (λ (l : SnapshotTask). l.log.name) of.log_is;
     made_is = ap (λ (l : SnapshotTask). l.log.made) of.log_is;
     base_is = ap (λ (l : SnapshotTask). l.base) of.log_is;
     depth_is = ap (λ (l : SnapshotTask). l.depth) of.log_is;
     actor_is = ap (λ (l : SnapshotTask). l.actor) of.log_is;
-    knows_in = λ g among. members.knows_there start at base finished old new name moved (halt.Value v) run is move stays_so g (sym (ap (λ (k : Knowledge). is_known k g) of.knows_is) ∙ among);
+    knows_in = λ g among. members.knows_there start at base finished old new name moved (halt.Value v) was run is move stays_so g (sym (ap (λ (k : Knowledge). is_known k g) of.knows_is) ∙ among);
     reads_in = λ ref among. (run.members name t is.there).reads_so ref (ap (λ (l : SnapshotTask). is_among ref l.reads) (sym of.log_is) ∙ among);
     stands = λ around results each first. first;
   }
 
-  -- the task ends so, with what it joined
-  finished_so : (parts : Parts) (e : TaskEnd) (found : Stepped) → IsSound parts (Ended (outcome_of e)) → IsFinished name parts e old.tasks new.tasks found → IsRun start at base finished new
-  finished_so parts e found sound did =
-      let to = did.tasks t is.there in
-      stepped start at base finished old new name moved (halt.Value v) run is move stays_so to.item parts.knows.keys parts.log.log (Ended (outcome_of e)) to.put
-      (ap tree_task to.related ∙ (λ i. task_at (levels_below (sound.depth_is i)) (sound.base_is i) parts.knows.keys parts.log.log (Ended (outcome_of e))))
+  -- the task has done this, and is there
+  changed_so : (parts : Parts) (kept_at : KeptStage) → IsSound parts (stage_of kept_at) → HasMachine start kept_at → IsChanged name old.tasks new.tasks (HasParts parts kept_at) → IsRun start at base finished new
+  changed_so parts kept_at sound machine change =
+      let to = change t is.there in
+      stepped start at base finished old new name moved (halt.Value v) was run is move stays_so to.item parts.knows.keys parts.log.log (stage_of kept_at) to.put
+      (ap tree_task to.related ∙ (λ i. task_at (levels_below (sound.depth_is i)) (sound.base_is i) parts.knows.keys parts.log.log (stage_of kept_at)))
       (λ ref among. ap (is_among ref) reads_are ∙ among)
       (record {
-        machine = subst (λ (s : Task). HasMachine start s.stage) (sym to.related) tt;
+        machine = subst (λ (s : Task). HasMachine start s.stage) (sym to.related) machine;
         actor = ap (λ (s : Task). s.log.actor) to.related ∙ sound.actor_is ∙ (run.members name t is.there).actor;
         reads_so = λ ref among. ap (is_among ref) reads_are ∙ sound.reads_in ref (ap (λ (s : Task). is_among ref s.log.reads) (sym to.related) ∙ among);
       })
       sound.name_is (let same = sound.made_is in omega arith) sound.knows_in
-      (λ around agrees results each so at_it. sound.stands around results each
-      (begins_at around results (step.valued around results name (levels_below t.log.depth) t.log.base t.knows.keys t.log.log moved.body moved.values moved.answers at_it v so)))
+      (λ around agrees results each so at_it. sound.stands around results each (begins_at around results (begun around results so at_it)))
     where
-      begins_at : (around : Around) (results : Name → Result) → IsAt around results name (task_at (levels_below t.log.depth) t.log.base t.knows.keys t.log.log (Closing v 0)) → At around results before (Closing v 0)
-      begins_at around results at_it = subst (λ (l : SnapshotTask). IsAt around results name (task_at (levels_below t.log.depth) t.log.base before.knows.keys l.log (Closing v 0))) (sym of.log_is)
+      begins_at : (around : Around) (results : Name → Result) → IsAt around results name (task_at (levels_below t.log.depth) t.log.base t.knows.keys t.log.log (Closing v from)) → At around results before (Closing v from)
+      begins_at around results at_it = subst (λ (l : SnapshotTask). IsAt around results name (task_at (levels_below t.log.depth) t.log.base before.knows.keys l.log (Closing v from))) (sym of.log_is)
           (record { known = at_it.known; matches = matches_same results t.knows.keys before.knows.keys at_it.known (λ g. ap (λ (k : Knowledge). is_known k g) of.knows_is) at_it.matches; comes = at_it.comes })
 
-  pub close_came : (after : Parts) (stop : Went) (found : Stepped) → AllWent old.tasks before after stop → CameClose name moved v after stop old.tasks new.tasks found → IsRun start at base finished new
-  close_came after went.On found all came =
+  -- all is joined
+  closed_so : (after : Parts) → Goes tasks from before (before.log.log.made - from) after → IsSound after (Ended (outcome_of (end.Value v)))
+  closed_so after all =
       let made = ap (λ (l : SnapshotTask). l.log.made) of.log_is in
-      let sound = goes_so first_so before.log.log.made after (omega arith) all in
-      finished_so after (end.Value v) found
-      (passed after (Closing v before.log.log.made) (Ended (outcome_of (end.Value v))) sound
-      (λ around results each at_it. step.closed around results name (levels_below t.log.depth) t.log.base after.knows.keys after.log.log v before.log.log.made at_it (made ∙ sym sound.made_is))) came
-  close_came after (went.Waits future) found all came = waited start at base finished old new name moved run is stays_so (halt.Value v) move (stepped_as.WaitJoin future) found came reads_are
-  close_came after (went.Ended e) found all came =
+      let count = before.log.log.made - from in
+      let sound = goes_so first_so count after (omega arith) all in
+      passed after (Closing v (from + count)) (Ended (outcome_of (end.Value v))) sound
+      (λ around results each at_it.
+      let within = at_it.comes.within in
+      let same = sound.made_is in
+      step.closed around results name (levels_below t.log.depth) t.log.base after.knows.keys after.log.log v (from + count) at_it (omega arith))
+
+  stops_so : (after : Parts) (stop : Went) (all : StopsAt tasks from before after stop) → After (from + all.count) after stop
+  stops_so after stop all =
       let made = ap (λ (l : SnapshotTask). l.log.made) of.log_is in
       let few = all.more in
-      finished_so after e found (went_so all.number all.mid (goes_so first_so all.number all.mid (omega arith) all.goes) (omega arith) after (went.Ended e) all.last) came
+      went_so (from + all.count) all.mid (goes_so first_so all.count all.mid (omega arith) all.goes) (omega arith) after stop all.last
+
+  pub close_came : (after : Parts) (stop : Went) (found : Stepped) → AllWent old.tasks from before after stop → CameClose name moved v after stop old.tasks new.tasks found → IsRun start at base finished new
+  close_came after went.On found all came = changed_so after (kept.Ended (end.Value v)) (closed_so after all) tt came.tasks
+  close_came after (went.Waits future next) found all came =
+      changed_so after (kept.Closing (record { machine = moved; value = v; next = next })) (stops_so after (went.Waits future next) all) (record { machine = move.machine; comes = move.halts_so }) came.tasks
+  close_came after (went.Ended e) found all came = changed_so after (kept.Ended e) (stops_so after (went.Ended e) all) tt came.tasks

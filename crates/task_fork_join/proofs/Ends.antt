@@ -49,6 +49,7 @@ module _ (start : Start) (at : Spot) (base finished : Name → Option Datum) (tr
     where
       at_stage : (t : Task) (stage : KeptStage) → named tree.root tree.tasks ≡ Some t → t.stage ≡ stage → end_by tree.escape (end_of stage) ≡ Some ended → EndsAs start at tree ended around
       at_stage t (kept.Going machine) there stage is = absurd (cc)
+      at_stage t (kept.Closing closing) there stage is = absurd (cc)
       at_stage t (kept.Ended e) there stage is = root_ended t e ended there stage (some_same (unless_escaping tree.escape e) ended is)
 
       on : (o : Option Task) → named tree.root tree.tasks ≡ o → end_by tree.escape (option_and_then (λ (t : Task). end_of t.stage) o) ≡ Some ended → EndsAs start at tree ended around

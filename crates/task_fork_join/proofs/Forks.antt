@@ -16,9 +16,9 @@ use Rattle.serial_model.specs.Log.{Log, new_log, with_made}
 use Rattle.serial_model.specs.Standing.{Going, Runs, Stage, Start, Tasks, TreeTask, call_below, here_of}
 use Rattle.serial_model.specs.Task.{forks}
 use Rattle.task_fork_join.proofs.Joins.{answered}
-use Rattle.task_fork_join.proofs.Members.{given_machine}
+use Rattle.task_fork_join.proofs.Members.{StandsAt, given_machine, going_at}
 use Rattle.task_fork_join.proofs.Members as members
-use Rattle.task_fork_join.specs.Attempt.{Attempt, levels_below, stage_of, tasks_of, tree_task, IsKept}
+use Rattle.task_fork_join.specs.Attempt.{Attempt, levels_below, stage_of, tasks_of, tree_task}
 use Rattle.task_fork_join.specs.declared.forking.Forked.{Forked}
 use Rattle.task_fork_join.specs.declared.stepped.Stepped.{Stepped}
 use Rattle.task_fork_join.specs.declared.task.Stage.TheVariants as kept
@@ -42,7 +42,7 @@ use Rattle.value_core.specs.Place.{Spot}
 level_less : (depth : ℕ) → 0 < levels_below depth → levels_below depth ≡ suc (levels_below (depth + 1))
 level_less depth more = omega arith
 
-module _ (start : Start) (at : Spot) (base finished : Name → Option Datum) (old new : Attempt) (name : Name) (moved : Evaluation) (run : IsRun start at base finished old) (is : IsKept name moved old.tasks) (stays_so : Stays old new)
+module _ (start : Start) (at : Spot) (base finished : Name → Option Datum) (old new : Attempt) (name : Name) (moved : Evaluation) (run : IsRun start at base finished old) (is : StandsAt name (going_at moved) old.tasks) (stays_so : Stays old new)
     (reads_are : new.reads ≡ old.reads) (body : NodeId) (values : List Datum) (place : Spot) (move : IsMove start moved (halt.Ask (request.Fork body values) place)) where
   abbrev t : Task
   t = is.task
@@ -85,7 +85,7 @@ module _ (start : Start) (at : Spot) (base finished : Name → Option Datum) (ol
     goes_on future = Going moved.body moved.values (moved.answers ++ answer.Value (value.Future future) ∷ [])
 
     parent_was : tree_task t ≡ task_at (suc left) t.log.base t.knows.keys t.log.log was
-    parent_was = members.was_moved start at base finished old new name moved asks run is move stays_so ∙ ap (λ n. task_at n t.log.base t.knows.keys t.log.log was) level
+    parent_was = members.was_there start at base finished old new name moved asks (going_at moved) run is move stays_so ∙ ap (λ n. task_at n t.log.base t.knows.keys t.log.log was) level
 
     child_is : tree_task begins ≡ task_at left (over t.log.log.writes t.log.base) f.child.knows.keys (new_log (name ++ t.log.log.made ∷ [])) (Going body values [])
     child_is = (λ i. task_at (levels_below (forked_so.child_log i).depth) (forked_so.child_log i).base f.child.knows.keys (forked_so.child_log i).log (Going (did.begun.body_is i) (did.begun.values_is i) (did.begun.none i)))

@@ -14,10 +14,10 @@ use Rattle.serial_model.specs.Eval.{next}
 use Rattle.serial_model.specs.Log.{Log, merged}
 use Rattle.serial_model.specs.Standing.{Agrees, EachTask, Ended, Going, IsAt, Runs, Stage, Start, Tasks, is_there}
 use Rattle.serial_model.specs.Task.{Around, Result}
-use Rattle.task_fork_join.proofs.Members.{among_both, given_machine, staged, stepped}
+use Rattle.task_fork_join.proofs.Members.{StandsAt, among_both, given_machine, going_at, staged, stepped}
 use Rattle.task_fork_join.proofs.Members as members
 use Rattle.task_fork_join.proofs.Replying.{member_at, waited}
-use Rattle.task_fork_join.specs.Attempt.{Attempt, levels_below, outcome_of, stage_of, tasks_of, tree_task, IsKept}
+use Rattle.task_fork_join.specs.Attempt.{Attempt, levels_below, outcome_of, stage_of, tasks_of, tree_task}
 use Rattle.task_fork_join.specs.declared.joining.Joined.{Joined}
 use Rattle.task_fork_join.specs.declared.joining.Met.{Met}
 use Rattle.task_fork_join.specs.declared.joining.Met.TheVariants as met
@@ -65,7 +65,7 @@ of_both there false b is first second = second is
 pub not_there : (tasks : Named Task) (f : Name) → named f tasks ≡ None → is_there (tasks_of tasks) f ≡ false
 not_there tasks f none = ap is_some (named-each_as tree_task f tasks) ∙ ap (λ (o : Option Task). is_some (option_map tree_task o)) none
 
-module _ (start : Start) (at : Spot) (base finished : Name → Option Datum) (old new : Attempt) (name : Name) (moved : Evaluation) (run : IsRun start at base finished old) (is : IsKept name moved old.tasks) (stays_so : Stays old new)
+module _ (start : Start) (at : Spot) (base finished : Name → Option Datum) (old new : Attempt) (name : Name) (moved : Evaluation) (run : IsRun start at base finished old) (is : StandsAt name (going_at moved) old.tasks) (stays_so : Stays old new)
     (reads_are : new.reads ≡ old.reads) where
   abbrev t : Task
   t = is.task
@@ -89,7 +89,7 @@ module _ (start : Start) (at : Spot) (base finished : Name → Option Datum) (ol
       → IsRun start at base finished new
   answered halts move given found did steps =
       let to = did.tasks t is.there in
-      staged start at base finished old new name moved halts run is move stays_so to.item (Going moved.body moved.values (moved.answers ++ given ∷ [])) to.put
+      staged start at base finished old new name moved halts (going_at moved) run is move stays_so to.item (Going moved.body moved.values (moved.answers ++ given ∷ [])) to.put
       (ap (λ (s : Task). s.log) to.related) (ap (λ (s : Task). s.knows) to.related)
       (ap (λ (s : Task). stage_of s.stage) to.related ∙ (λ i. Going (did.given_so.same.body i) (did.given_so.same.values i) (did.given_so.answers i))) reads_are
       (member_at start at base finished old new name moved run is stays_so to.item (ap (λ (s : Task). s.log) to.related) reads_are
@@ -103,7 +103,7 @@ module _ (start : Start) (at : Spot) (base finished : Name → Option Datum) (ol
       → IsRun start at base finished new
   ended halts move e found did steps =
       let to = did.tasks t is.there in
-      staged start at base finished old new name moved halts run is move stays_so to.item (Ended (outcome_of e)) to.put
+      staged start at base finished old new name moved halts (going_at moved) run is move stays_so to.item (Ended (outcome_of e)) to.put
       (ap (λ (s : Task). s.log) to.related) (ap (λ (s : Task). s.knows) to.related) (ap (λ (s : Task). stage_of s.stage) to.related) reads_are
       (member_at start at base finished old new name moved run is stays_so to.item (ap (λ (s : Task). s.log) to.related) reads_are (subst (λ (s : Task). HasMachine start s.stage) (sym to.related) tt))
       steps
@@ -131,7 +131,7 @@ module _ (start : Start) (at : Spot) (base finished : Name → Option Datum) (ol
           → IsTaken name moved joined old.tasks new.tasks found → IsRun start at base finished new
       first joined found stage apart merges took =
           let to = took.tasks t is.there in
-          stepped start at base finished old new name moved asks run is move stays_so to.item joined.parts.knows.keys (merged t.log.log child.log.log)
+          stepped start at base finished old new name moved asks (going_at moved) run is move stays_so to.item joined.parts.knows.keys (merged t.log.log child.log.log)
           (Going moved.body moved.values (moved.answers ++ answer.Value joined.value ∷ [])) to.put
           (came_task to.item to.related)
           (λ ref among. ap (is_among ref) reads_are ∙ among)
@@ -143,7 +143,7 @@ module _ (start : Start) (at : Spot) (base finished : Name → Option Datum) (ol
           })
           refl (omega arith)
           (λ f among. of_both (is_there (tasks_of old.tasks) f) (is_known t.knows f) (is_known child.knows f) (sym (merges.both f) ∙ among)
-          (members.knows_there start at base finished old new name moved asks run is move stays_so f) (child_knows f))
+          (members.knows_there start at base finished old new name moved asks (going_at moved) run is move stays_so f) (child_knows f))
           (λ around agrees results each so at_it.
           step.joined_first around results name levels t.log.base t.knows.keys t.log.log moved.body moved.values moved.answers at_it future place so known
           (levels_below child.log.depth) child.log.base child.knows.keys child.log.log joined.value joined.parts.knows.keys (child_at around results old.tasks future child (end.Value joined.value) each there stage) apart merges.both)
@@ -173,5 +173,5 @@ module _ (start : Start) (at : Spot) (base finished : Name → Option Datum) (ol
 
         on : (b : Bool) (child : Option Task) → is_known t.knows future ≡ b → named future old.tasks ≡ child → IsMetAs (cond b child None) t future join.meets → IsRun start at base finished new
         on false child apart there it = unknown join.meets it apart join.came
-        on true None known none it = absurd (let here = members.knows_there start at base finished old new name moved asks run is move stays_so future known in let lost = not_there old.tasks future none in cc)
+        on true None known none it = absurd (let here = members.knows_there start at base finished old new name moved asks (going_at moved) run is move stays_so future known in let lost = not_there old.tasks future none in cc)
         on true (Some child) known there it = met_known known child there join.meets outer found it join.came

@@ -12,7 +12,7 @@ use Rattle.serial_model.specs.declared.halt.Halt.TheVariants as halt
 use Rattle.serial_model.specs.declared.request.Request.{Request}
 use Rattle.serial_model.specs.Eval.{next}
 use Rattle.task_fork_join.proofs.Kinship.{GrowsTo, all_grow, grows_there, joined_grows, parent_grows, parent_is, put_child_kin, put_kin}
-use Rattle.task_fork_join.specs.Attempt.{AreKin, AreTasks, IsInside, IsKept, IsRootAlone}
+use Rattle.task_fork_join.specs.Attempt.{AreKin, AreTasks, IsInside, IsKept, IsRootAlone, machine_at}
 use Rattle.task_fork_join.specs.Closing.{CameClose, IsClose, IsFinished}
 use Rattle.task_fork_join.specs.declared.closing.Went.{Went}
 use Rattle.task_fork_join.specs.declared.closing.Went.TheVariants as went
@@ -72,9 +72,15 @@ changed_keeps root name old new R inside grows kept change are = on (named name 
 kept_some : (name : Name) (moved : Evaluation) (tasks : Named Task) → IsKept name moved tasks → IsSome (named name tasks)
 kept_some name moved tasks kept = subst (λ (o : Option Task). IsSome o) (sym kept.there) refl
 
+-- the machine that is kept there is inside
+machine_inside : (stage : KeptStage) (machine : Evaluation) → machine_at stage ≡ Some machine → IsInside stage → machine.inside ≡ true
+machine_inside (stages.Going m) machine is inside = let same : m ≡ machine = cc in subst (λ (x : Evaluation). x.inside ≡ true) same inside
+machine_inside (stages.Closing closing) machine is inside = let same : closing.machine ≡ machine = cc in subst (λ (x : Evaluation). x.inside ≡ true) same inside
+machine_inside (stages.Ended e) machine is inside = absurd (cc)
+
 -- the machine of a task that is kept is inside
 pub kept_inside : (root name : Name) (moved : Evaluation) (tasks : Named Task) → AreTasks root tasks → IsKept name moved tasks → moved.inside ≡ true
-kept_inside root name moved tasks are kept = kept.same.task.inside ∙ subst IsInside kept.going (are.inside name kept.task kept.there)
+kept_inside root name moved tasks are kept = kept.same.task.inside ∙ machine_inside kept.task.stage kept.machine kept.going (are.inside name kept.task kept.there)
 
 -- a request at which the machine of a task that is kept stands is none for a transaction
 pub asks_inside : (root name : Name) (moved : Evaluation) (tasks : Named Task) → AreTasks root tasks → IsKept name moved tasks → (halts : Halt) → HaltsAt moved halts → AsksInside moved halts
@@ -155,9 +161,12 @@ module _ (root name : Name) (moved : Evaluation) (old new : Named Task) (are : A
   pub ended_keeps : (e : TaskEnd) → IsEnded name e old new found → AreTasks root new
   ended_keeps e did = gone (stages.Ended e) tt did.tasks
 
+  parts_keep : (parts : Parts) (stage : KeptStage) → IsInside stage → ((s : Task) → named name old ≡ Some s → GrowsTo old s.knows parts.knows) → IsChanged name old new (HasParts parts stage) → AreTasks root new
+  parts_keep parts stage inside grows change = changed (HasParts parts stage) (λ s t same. same_inside t (record { log = parts.log; knows = parts.knows; stage = stage }) same inside)
+      (λ s t is same. knows_those parts grows s t is (ap (λ (x : Task). x.knows) same)) change
+
   finished_keeps : (parts : Parts) (e : TaskEnd) → ((s : Task) → named name old ≡ Some s → GrowsTo old s.knows parts.knows) → IsFinished name parts e old new found → AreTasks root new
-  finished_keeps parts e grows did = changed (HasParts parts (stages.Ended e)) (λ s t same. same_inside t (record { log = parts.log; knows = parts.knows; stage = stages.Ended e }) same tt)
-      (λ s t is same. knows_those parts grows s t is (ap (λ (x : Task). x.knows) same)) did.tasks
+  finished_keeps parts e grows did = parts_keep parts (stages.Ended e) tt grows did.tasks
 
   pub acted_keeps : (refs : Name → Option Datum) (asked : Request) (reads more : List Name) → IsActed refs name moved asked old reads new more found → AreTasks root new
   acted_keeps refs asked reads more did = on did.reply did.came
@@ -192,12 +201,12 @@ module _ (root name : Name) (moved : Evaluation) (old new : Named Task) (are : A
   close_keeps v did = on did.closed.went did.came
     where
       grows : (s : Task) → named name old ≡ Some s → GrowsTo old s.knows did.closed.parts.knows
-      grows s is = all_grow old are.kin s.knows did.joins.before did.closed.parts did.closed.went
+      grows s is = all_grow old are.kin s.knows did.joins.from did.joins.before did.closed.parts did.closed.went
           (subst (GrowsTo old s.knows) (sym (did.joins.parts_of s is).knows_is) (grows_there old name s are.kin is)) did.joins.went_so
 
       on : (stop : Went) → CameClose name moved v did.closed.parts stop old new found → AreTasks root new
       on went.On came = finished_keeps did.closed.parts (end.Value v) grows came
-      on (went.Waits future) came = waits (stepped.WaitJoin future) came
+      on (went.Waits future next) came = parts_keep did.closed.parts (stages.Closing (record { machine = moved; value = v; next = next })) moved_inside grows came.tasks
       on (went.Ended e) came = finished_keeps did.closed.parts e grows came
 
   -- the child is there, and the task goes on with its future

@@ -1,6 +1,6 @@
 -- What the tasks of an attempt know of one another.
 use Rattle.std.proofs.Common.{◌≡◌, ◌∙◌, ℕ, zero, suc, Bool, true, false, cond, refl, sym, ap, subst, Option, Some, None, ◌⊎◌, inl, inr}
-use Rattle.std.specs.Prelude.{◌||◌}
+use Rattle.std.specs.Prelude.{◌+◌, ◌-◌, ◌||◌}
 use Rattle.std.specs.Option.{IsSome}
 use Rattle.task_fork_join.specs.Attempt.{AreKin, IsKin, IsOfTasks}
 use Rattle.task_fork_join.specs.Closing.{AllWent, Goes, IsWent, StopsAt, WentAt, WentBy}
@@ -149,25 +149,29 @@ module _ (tasks : Named Task) (are : AreKin tasks) where
   went_grows : (old : Knowledge) (k : ℕ) (mid new : Parts) (found : Went) → GrowsTo tasks old mid.knows → IsWent tasks k mid new found → GrowsTo tasks old new.knows
   went_grows old k mid new found grows it = on (is_among (made_by mid.log.log.name k) mid.log.log.joined) (known_in tasks mid.knows (made_by mid.log.log.name k)) refl it
     where
-      at : (c : Task) → known_in tasks mid.knows (made_by mid.log.log.name k) ≡ Some c → (stage : KeptStage) → WentAt stage (made_by mid.log.log.name k) c mid new found → GrowsTo tasks old new.knows
+      at : (c : Task) → known_in tasks mid.knows (made_by mid.log.log.name k) ≡ Some c → (stage : KeptStage) → WentAt stage (made_by mid.log.log.name k) k c mid new found → GrowsTo tasks old new.knows
       at c is (kept.Going machine) so = same_parts old mid new so.0 grows
+      at c is (kept.Closing closing) so = same_parts old mid new so.0 grows
       at c is (kept.Ended (end.Value v)) so = joined_grows (made_by mid.log.log.name k) c mid.log old mid.knows new grows is so.0
       at c is (kept.Ended (end.Fault code place)) so = same_parts old mid new so.0 grows
       at c is (kept.Ended end.Spent) so = same_parts old mid new so.0 grows
 
-      on : (joined : Bool) (child : Option Task) → known_in tasks mid.knows (made_by mid.log.log.name k) ≡ child → WentBy (cond joined None child) (made_by mid.log.log.name k) mid new found → GrowsTo tasks old new.knows
+      on : (joined : Bool) (child : Option Task) → known_in tasks mid.knows (made_by mid.log.log.name k) ≡ child → WentBy (cond joined None child) (made_by mid.log.log.name k) k mid new found → GrowsTo tasks old new.knows
       on true child is so = same_parts old mid new so.0 grows
       on false None is so = same_parts old mid new so.0 grows
       on false (Some c) is so = at c is c.stage so
 
-  pub goes_grow : (old : Knowledge) (first : Parts) (k : ℕ) (new : Parts) → GrowsTo tasks old first.knows → Goes tasks first k new → GrowsTo tasks old new.knows
-  goes_grow old first zero new grows is = same_parts old first new is grows
-  goes_grow old first (suc k) new grows goes = went_grows old k goes.0 new went.On (goes_grow old first k goes.0 grows goes.1.0) goes.1.1
+  pub goes_grow : (old : Knowledge) (from : ℕ) (first : Parts) (count : ℕ) (new : Parts) → GrowsTo tasks old first.knows → Goes tasks from first count new → GrowsTo tasks old new.knows
+  goes_grow old from first zero new grows is = same_parts old first new is grows
+  goes_grow old from first (suc count) new grows goes = went_grows old (from + count) goes.0 new went.On (goes_grow old from first count goes.0 grows goes.1.0) goes.1.1
 
-  pub all_grow : (old : Knowledge) (first new : Parts) (found : Went) → GrowsTo tasks old first.knows → AllWent tasks first new found → GrowsTo tasks old new.knows
-  all_grow old first new went.On grows goes = goes_grow old first first.log.log.made new grows goes
-  all_grow old first new (went.Waits future) grows stops = went_grows old stops.number stops.mid new (went.Waits future) (goes_grow old first stops.number stops.mid grows stops.goes) stops.last
-  all_grow old first new (went.Ended e) grows stops = went_grows old stops.number stops.mid new (went.Ended e) (goes_grow old first stops.number stops.mid grows stops.goes) stops.last
+  stops_grow : (old : Knowledge) (from : ℕ) (first new : Parts) (found : Went) → GrowsTo tasks old first.knows → StopsAt tasks from first new found → GrowsTo tasks old new.knows
+  stops_grow old from first new found grows stops = went_grows old (from + stops.count) stops.mid new found (goes_grow old from first stops.count stops.mid grows stops.goes) stops.last
+
+  pub all_grow : (old : Knowledge) (from : ℕ) (first new : Parts) (found : Went) → GrowsTo tasks old first.knows → AllWent tasks from first new found → GrowsTo tasks old new.knows
+  all_grow old from first new went.On grows goes = goes_grow old from first (first.log.log.made - from) new grows goes
+  all_grow old from first new (went.Waits future next) grows stops = stops_grow old from first new (went.Waits future next) grows stops
+  all_grow old from first new (went.Ended e) grows stops = stops_grow old from first new (went.Ended e) grows stops
 
   -- ---- a task takes the place of one that is there
   pub put_kin : (name : Name) (t new : Task) → named name tasks ≡ Some t → GrowsTo tasks t.knows new.knows → AreKin (with_named tasks name new)

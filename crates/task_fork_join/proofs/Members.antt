@@ -10,7 +10,7 @@ use Rattle.serial_model.specs.Eval.{next}
 use Rattle.serial_model.specs.Log.{Log}
 use Rattle.serial_model.specs.Standing.{Agrees, EachTask, Going, IsAt, Runs, Stage, Start, TreeTask, is_there}
 use Rattle.serial_model.specs.Task.{Around, Result}
-use Rattle.task_fork_join.specs.Attempt.{Attempt, levels_below, stage_of, tasks_of, tree_task, IsKept}
+use Rattle.task_fork_join.specs.Attempt.{Attempt, levels_below, stage_of, tasks_of, tree_task}
 use Rattle.task_fork_join.specs.declared.task.Stage.TheVariants as kept
 use Rattle.task_fork_join.specs.declared.task.Task.{Task}
 use Rattle.task_fork_join.specs.Running.{AreMembers, IsMachine, IsMember, IsMove, IsRun}
@@ -24,6 +24,16 @@ use Rattle.value_core.proofs.NamedViews.{each_as-with_named, view_found}
 use Rattle.value_core.specs.declared.value.Value.{Value as Datum}
 use Rattle.value_core.specs.Named.{Name, Named, is_among, named, same_name, with_named, IsChanged}
 use Rattle.value_core.specs.Place.{Spot}
+
+-- the task of that name stands there
+pub record StandsAt (name : Name) (was : Stage) (tasks : Named Task) : Type 0 where
+  pub task : Task
+  pub there : named name tasks ≡ Some task
+  pub stage : stage_of task.stage ≡ was
+
+-- where a machine goes on
+abbrev pub going_at : Evaluation → Stage
+going_at moved = Going moved.body moved.values moved.answers
 
 -- where nothing stands under a name, nothing is to be changed
 pub unchanged : {X : Type 0} (k : Name) (old new : Named X) (R : X → X → Type 0) → named k old ≡ None → IsChanged k old new R
@@ -73,19 +83,16 @@ module _ (start : Start) (at : Spot) (base finished : Name → Option Datum) whe
   pub given_machine : (moved machine : Evaluation) (given : Answer) → IsMachine start moved → IsGiven moved given machine → IsMachine start machine
   given_machine moved machine given is so = record { inside = so.same.inside ∙ is.inside; fuel = so.same.fuel ∙ is.fuel; of = so.of start.program is.of }
 
-  -- a task that is kept is at the machine that was moved
-  module _ (old new : Attempt) (name : Name) (moved : Evaluation) (halts : Halt) (run : IsRun start at base finished old) (is : IsKept name moved old.tasks) (move : IsMove start moved halts) (stays : Stays old new) where
+  -- a task that stands there takes a step
+  module _ (old new : Attempt) (name : Name) (moved : Evaluation) (halts : Halt) (was : Stage) (run : IsRun start at base finished old) (is : StandsAt name was old.tasks) (move : IsMove start moved halts) (stays : Stays old new) where
     abbrev t : Task
     t = is.task
 
     abbrev pub at_stage : List Name → Log → Stage → TreeTask
     at_stage knows log stage = task_at (levels_below t.log.depth) t.log.base knows log stage
 
-    abbrev pub was_going : Stage
-    was_going = Going moved.body moved.values moved.answers
-
-    pub was_moved : tree_task t ≡ at_stage t.knows.keys t.log.log was_going
-    was_moved = ap (at_stage t.knows.keys t.log.log) (ap stage_of is.going ∙ (λ i. Going (sym is.same.task.body i) (sym is.same.task.values i) (sym is.same.answers i)))
+    pub was_there : tree_task t ≡ at_stage t.knows.keys t.log.log was
+    was_there = ap (at_stage t.knows.keys t.log.log) is.stage
 
     pub there : named name (tasks_of old.tasks) ≡ Some (tree_task t)
     there = view_found tree_task name old.tasks t is.there
@@ -105,7 +112,7 @@ module _ (start : Start) (at : Spot) (base finished : Name → Option Datum) whe
         → log.name ≡ t.log.log.name → t.log.log.made ≤ log.made → ((f : Name) → is_among f knows ≡ true → is_there (tasks_of old.tasks) f ≡ true)
         → ((around : Around) → Agrees start base new.reads finished around → (results : Name → Result) → EachTask (IsAt around results) (tasks_of old.tasks)
         → next around.program moved.body moved.values true moved.answers around.fuel ≡ halts
-        → IsAt around results name (at_stage t.knows.keys t.log.log was_going) → IsAt around results name (at_stage knows log stage))
+        → IsAt around results name (at_stage t.knows.keys t.log.log was) → IsAt around results name (at_stage knows log stage))
         → IsRun start at base finished new
     stepped t' knows log stage put same all its named_so made known steps =
         put_runs old new name t' run stays put all its
@@ -116,14 +123,14 @@ module _ (start : Start) (at : Spot) (base finished : Name → Option Datum) whe
           knows_there = subst (λ (s : TreeTask). (f : Name) → is_among f s.knows ≡ true → is_there (tasks_of old.tasks) f ≡ true) (sym same) known;
         })
         (λ around agrees results each at_it. subst (IsAt around results name) (sym same)
-        (steps around agrees results each (halts_so around new.reads agrees) (subst (IsAt around results name) was_moved at_it))))
+        (steps around agrees results each (halts_so around new.reads agrees) (subst (IsAt around results name) was_there at_it))))
 
     -- only its stage changes
     pub staged : (t' : Task) (stage : Stage) → new.tasks ≡ with_named old.tasks name t' → t'.log ≡ t.log → t'.knows ≡ t.knows → stage_of t'.stage ≡ stage → new.reads ≡ old.reads
         → IsMember start new.reads t'
         → ((around : Around) → Agrees start base new.reads finished around → (results : Name → Result) → EachTask (IsAt around results) (tasks_of old.tasks)
         → next around.program moved.body moved.values true moved.answers around.fuel ≡ halts
-        → IsAt around results name (at_stage t.knows.keys t.log.log was_going) → IsAt around results name (at_stage t.knows.keys t.log.log stage))
+        → IsAt around results name (at_stage t.knows.keys t.log.log was) → IsAt around results name (at_stage t.knows.keys t.log.log stage))
         → IsRun start at base finished new
     staged t' stage put log_is knows_is stage_is reads_are its steps =
         stepped t' t.knows.keys t.log.log stage put

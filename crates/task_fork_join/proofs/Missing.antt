@@ -83,7 +83,7 @@ module _ (refs : Name → Option Value) (name : Name) (moved : Evaluation) (oute
 
   close-none : (v : Value) (parts : _) (end : Went) → CameClose name moved v parts end old.tasks new.tasks (stepped.NotInSnapshot ref) → refs ref ≡ None
   close-none v parts went.On is = let no = is.finished in cc
-  close-none v parts (went.Waits future) is = let no = is.waits in cc
+  close-none v parts (went.Waits future next) is = let no = is.waits in cc
   close-none v parts (went.Ended e) is = let no = is.finished in cc
 
   acted-none : (asked : Request) → IsActed refs name moved asked old.tasks old.reads new.tasks new.reads (stepped.NotInSnapshot ref) → refs ref ≡ None

@@ -10,9 +10,9 @@ use Rattle.serial_model.specs.declared.halt.Halt.TheVariants as halt
 use Rattle.serial_model.specs.declared.request.Request.{Request}
 use Rattle.serial_model.specs.declared.request.Request.TheVariants as request
 use Rattle.serial_model.specs.Standing.{Going, Runs, Start}
-use Rattle.task_fork_join.proofs.Members.{among_one, given_machine, put_runs, staged}
+use Rattle.task_fork_join.proofs.Members.{StandsAt, among_one, given_machine, going_at, put_runs, staged}
 use Rattle.task_fork_join.proofs.Members as members
-use Rattle.task_fork_join.specs.Attempt.{Attempt, levels_below, stage_of, tasks_of, tree_task, IsKept}
+use Rattle.task_fork_join.specs.Attempt.{Attempt, levels_below, stage_of, tasks_of, tree_task}
 use Rattle.task_fork_join.specs.declared.stepped.Stepped.{Stepped}
 use Rattle.task_fork_join.specs.declared.task.Stage.TheVariants as kept
 use Rattle.task_fork_join.specs.declared.task.Task.{Task}
@@ -110,7 +110,7 @@ reads_noted base task after (request.Send to message) reads given all is = actin
 reads_noted base task after (request.Become behaviour state) reads given all is = acting task after (request.Become behaviour state) reads given (ahead_of task (request.Become behaviour state)) all refl is
 reads_noted base task after request.SelfActor reads given all is = acting task after request.SelfActor reads given (ahead_of task request.SelfActor) all refl is
 
-module _ (start : Start) (at : Spot) (base finished : Name → Option Datum) (old new : Attempt) (name : Name) (moved : Evaluation) (run : IsRun start at base finished old) (is : IsKept name moved old.tasks) (stays_so : Stays old new) where
+module _ (start : Start) (at : Spot) (base finished : Name → Option Datum) (old new : Attempt) (name : Name) (moved : Evaluation) (run : IsRun start at base finished old) (is : StandsAt name (going_at moved) old.tasks) (stays_so : Stays old new) where
   abbrev t : Task
   t = is.task
 
@@ -127,7 +127,7 @@ module _ (start : Start) (at : Spot) (base finished : Name → Option Datum) (ol
   pub waited : (halts : Halt) → IsMove start moved halts → (wait found : Stepped) → IsWaiting name moved wait old.tasks new.tasks found → new.reads ≡ old.reads → IsRun start at base finished new
   waited halts move wait found waits reads_are =
       let to = waits.tasks t is.there in
-      staged start at base finished old new name moved halts run is move stays_so to.item (Going moved.body moved.values moved.answers) to.put
+      staged start at base finished old new name moved halts (going_at moved) run is move stays_so to.item (Going moved.body moved.values moved.answers) to.put
       (ap (λ (s : Task). s.log) to.related) (ap (λ (s : Task). s.knows) to.related) (ap (λ (s : Task). stage_of s.stage) to.related) reads_are
       (member_at to.item (ap (λ (s : Task). s.log) to.related) reads_are (subst (λ (s : Task). HasMachine start s.stage) (sym to.related) move.machine))
       (λ around agrees results each so at_it. at_it)
@@ -149,7 +149,7 @@ module _ (start : Start) (at : Spot) (base finished : Name → Option Datum) (ol
         })
         (subst (λ ts. Runs start base finished ts new.reads) (ap (with_named (tasks_of old.tasks) name) (sym (came_task to.item to.related came.machine came.given_so leaves.depth)))
         (answers_keep_runs start base finished (tasks_of old.tasks) old.reads new.reads run.runs name t.log log (levels_below t.log.depth) t.knows.keys moved.body moved.values moved.answers
-        (members.there start at base finished old new name moved (halt.Ask asked place) run is move stays_so ∙ ap Some (members.was_moved start at base finished old new name moved (halt.Ask asked place) run is move stays_so))
+        (members.there start at base finished old new name moved (halt.Ask asked place) (going_at moved) run is move stays_so ∙ ap Some (members.was_there start at base finished old new name moved (halt.Ask asked place) (going_at moved) run is move stays_so))
         (run.members name t is.there).actor asked place given move.halts_so reply all read))
       where
         came_task : (t' : Task) → t' ≡ record t { log = log; stage = kept.Going came.machine } → (machine : Evaluation) → IsGiven moved given machine → log.depth ≡ t.log.depth

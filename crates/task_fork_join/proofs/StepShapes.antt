@@ -1,6 +1,6 @@
 -- How a step of a task leaves the tasks of its attempt.
 use Rattle.std.proofs.Common.{◌≡◌, ◌∙◌, ◌⊎◌, Bool, true, false, cond, inl, inr, refl, sym, ap, subst}
-use Rattle.std.specs.Prelude.{ℕ, List, Option, None, Some, if◌then◌else◌}
+use Rattle.std.specs.Prelude.{ℕ, ◌+◌, List, Option, None, Some, if◌then◌else◌}
 use Rattle.core_syntax.specs.declared.node_id.NodeId.{NodeId}
 use Rattle.eval_step.specs.Evaluation.{Evaluation}
 use Rattle.serial_model.specs.declared.answer.Answer.{Answer}
@@ -26,7 +26,7 @@ use Rattle.task_fork_join.specs.Forking as forking
 use Rattle.task_fork_join.specs.Forking.{CameFork}
 use Rattle.task_fork_join.specs.Joining.{CameJoin, CamePlain, IsEnded, IsGoing, IsJoin, IsMetAs, known_in}
 use Rattle.task_fork_join.specs.Step.{Asks, Comes}
-use Rattle.task_fork_join.specs.Stepping.{CameReply, IsActed, IsAnswered, IsWaiting, is_held_back}
+use Rattle.task_fork_join.specs.Stepping.{CameReply, IsActed, IsAnswered, IsWaiting, is_missing}
 use Rattle.txn_snapshot.specs.declared.answered.Answered.{Answered}
 use Rattle.txn_snapshot.specs.declared.answered.Answered.TheVariants as answered
 use Rattle.value_core.proofs.NamedLaws.{named-here, named-with_named, same_name-equal}
@@ -72,7 +72,7 @@ pub record IsShaped (tasks : Named Task) (name : Name) (outer : Option Value) (h
   pub others : (n : Name) → (n ≡ name → ⊥) → (went ≡ stepped.Forked n → ⊥) → named n new ≡ named n tasks
   pub child : (c : Name) → went ≡ stepped.Forked c → (c ≡ name → ⊥) → GoesAt new c
   pub forking : (c : Name) → went ≡ stepped.Forked c → IsForking tasks name h c
-  pub knows : is_held_back went ≡ true → (t : Task) → named name tasks ≡ Some t → after.knows ≡ t.knows
+  pub knows : is_missing went ≡ true → (t : Task) → named name tasks ≡ Some t → after.knows ≡ t.knows
 
 -- a task that is put in the place of another one leaves the others
 pub put-apart : {X : Type 0} (name : Name) (item : X) (old new : Named X) → new ≡ with_named old name item → (n : Name) → (n ≡ name → ⊥) → named n new ≡ named n old
@@ -85,7 +85,7 @@ put-apart name item old new put n other = ap (named n) put ∙ named-with_named 
 module _ (name : Name) (tasks new : Named Task) (outer : Option Value) (h : Halt) (t : Task) (there : named name tasks ≡ Some t) where
   -- the task alone has changed
   alone : (R : Task → Task → Type 0) (went : Stepped) → IsChangedTo name tasks new R t → ((k : Task) → R t k → IsAfter tasks outer h went k) → ((c : Name) → went ≡ stepped.Forked c → ⊥)
-      → (is_held_back went ≡ true → (k : Task) → R t k → k.knows ≡ t.knows) → IsShaped tasks name outer h went new
+      → (is_missing went ≡ true → (k : Task) → R t k → k.knows ≡ t.knows) → IsShaped tasks name outer h went new
   alone R went to is none same = record {
     after = to.item;
     here = ap (named name) to.put ∙ named-here name to.item tasks;
@@ -192,30 +192,38 @@ module _ (name : Name) (tasks new : Named Task) (outer : Option Value) (h : Halt
           (λ k e none. let no : Some ended ≡ None = sym (ap (λ (x : Task). end_of x.stage) e) ∙ none in cc) (λ c e. cc) (λ held. cc))
 
       -- what is waited for is a task of the attempt that goes on
-      going-child : (f q : Name) (parts last : Parts) (found : Option Task) → (if is_among q parts.log.log.joined then None else known_in tasks parts.knows q) ≡ found → WentBy found q parts last (went_as.Waits f) → GoesAt tasks f
-      going-child f q parts last None e so = let no = so.1 in cc
-      going-child f q parts last (Some child) e so = stage child.stage refl so
+      going-child : (f q : Name) (k n : ℕ) (parts last : Parts) (found : Option Task) → (if is_among q parts.log.log.joined then None else known_in tasks parts.knows q) ≡ found → WentBy found q k parts last (went_as.Waits f n) → GoesAt tasks f
+      going-child f q k n parts last None e so = let no = so.1 in cc
+      going-child f q k n parts last (Some child) e so = stage child.stage refl so
         where
           among : (c d : Bool) → (if c then None else (if d then named q tasks else None)) ≡ Some child → named q tasks ≡ Some child
           among true d e = cc
           among false true e = e
           among false false e = cc
 
-          stage : (s : Stage) → child.stage ≡ s → WentAt s q child parts last (went_as.Waits f) → GoesAt tasks f
-          stage (kept.Going machine) is so = let same : f ≡ q = cc in record {
+          goes : IsGoing child.stage → went_as.Waits f n ≡ went_as.Waits q k → GoesAt tasks f
+          goes going so = let same : f ≡ q = cc in record {
             task = child;
-            there = ap (λ n. named n tasks) same ∙ among (is_among q parts.log.log.joined) (is_known parts.knows q) e;
-            going = subst (λ s. IsGoing s) (sym is) tt;
+            there = ap (λ m. named m tasks) same ∙ among (is_among q parts.log.log.joined) (is_known parts.knows q) e;
+            going = going;
           }
+
+          stage : (s : Stage) → child.stage ≡ s → WentAt s q k child parts last (went_as.Waits f n) → GoesAt tasks f
+          stage (kept.Going machine) is so = goes (subst (λ s. IsGoing s) (sym is) tt) so.1
+          stage (kept.Closing closing) is so = goes (subst (λ s. IsGoing s) (sym is) tt) so.1
           stage (kept.Ended (end.Value v)) is so = let no = so.1 in cc
           stage (kept.Ended (end.Fault code at)) is so = let no = so.1 in cc
           stage (kept.Ended end.Spent) is so = let no = so.1 in cc
 
-      on : (w : Went) → AllWent tasks is.joins.before is.closed.parts w → CameClose name moved v is.closed.parts w tasks new went → IsShaped tasks name outer h went new
+      on : (w : Went) → AllWent tasks is.joins.from is.joins.before is.closed.parts w → CameClose name moved v is.closed.parts w tasks new went → IsShaped tasks name outer h went new
       on went_as.On all came = finished is.closed.parts (end.Value v) came
       on (went_as.Ended e) all came = finished is.closed.parts e came
-      on (went_as.Waits f) all came = waiting-shape moved (stepped.WaitJoin f) went
-          (λ k e. (subst (λ (x : Task). IsGoing x.stage) (sym e) tt, inl (going-child f (made_by all.mid.log.log.name all.number) all.mid is.closed.parts _ refl all.last))) (λ c e. cc) came
+      on (went_as.Waits f n) all came = subst (λ w. IsShaped tasks name outer h w new) (sym came.waits)
+          (alone (λ x y. y ≡ record { log = is.closed.parts.log; knows = is.closed.parts.knows; stage = kept.Closing (record { machine = moved; value = v; next = n }) }) (stepped.WaitJoin f) (came.tasks t there)
+          (λ k e. (
+            subst (λ (x : Task). IsGoing x.stage) (sym e) tt,
+            inl (going-child f (made_by all.mid.log.log.name (is.joins.from + all.count)) (is.joins.from + all.count) n all.mid is.closed.parts _ refl all.last),
+          )) (λ c e. cc) (λ held. cc))
 
 -- so it is for each step
 module _ (refs : Name → Option Value) (name : Name) (moved : Evaluation) (outer : Option Value) (old new : Attempt) (went : Stepped) (t : Task) (there : named name old.tasks ≡ Some t) where

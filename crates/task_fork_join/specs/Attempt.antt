@@ -3,7 +3,7 @@ use Rattle.std.specs.Prelude.{◌≡◌, ◌-◌, ℕ, true, List, [], ◌∷◌
 use Rattle.std.specs.Coded.{Coded, code_by, coded×, coded_list, coded_option, coded_ℕ}
 use Rattle.std.specs.Option.{option_and_then, option_map, IsSome}
 use Rattle.eval_step.specs.Evaluation.{Evaluation, IsSame}
-use Rattle.serial_model.specs.Standing.{Ended, Going, Stage, Tasks, TreeTask}
+use Rattle.serial_model.specs.Standing.{Closing, Ended, Going, Stage, Tasks, TreeTask}
 use Rattle.serial_model.specs.Task.{Outcome, Value, Fault, Spent}
 use Rattle.task_fork_join.specs.contracts.task.Task as task
 use Rattle.task_fork_join.specs.contracts.task_end.TaskEnd as task_end
@@ -54,6 +54,7 @@ outcome_of end.Spent = Spent
 -- where a task is, in the model
 abbrev pub stage_of : KeptStage → Stage
 stage_of (kept.Going machine) = Going machine.body machine.values machine.answers
+stage_of (kept.Closing closing) = Closing closing.value closing.next
 stage_of (kept.Ended ended) = Ended (outcome_of ended)
 
 -- a task, in the model
@@ -64,13 +65,15 @@ tree_task t = in_tree t.log (levels_below t.log.depth) t.knows.keys (stage_of t.
 abbrev pub tasks_of : Named Task → Tasks
 tasks_of tasks = each_as tree_task tasks
 
--- the machine of a task that goes on
+-- the machine that is kept there
+abbrev pub machine_at : KeptStage → Option Evaluation
+machine_at (kept.Going machine) = Some machine
+machine_at (kept.Closing closing) = Some closing.machine
+machine_at (kept.Ended ended) = None
+
+-- the machine of a task that has not ended
 abbrev pub going : Task → Option Evaluation
-going t = on t.stage
-  where
-    on : KeptStage → Option Evaluation
-    on (kept.Going machine) = Some machine
-    on (kept.Ended ended) = None
+going t = machine_at t.stage
 
 -- the machine of the task of that name, where it has not finished
 abbrev pub machine_of : Attempt → Name → Option Evaluation
@@ -79,6 +82,7 @@ machine_of tree name = option_and_then going (named name tree.tasks)
 -- how a task ended
 abbrev pub end_of : KeptStage → Option TaskEnd
 end_of (kept.Going machine) = None
+end_of (kept.Closing closing) = None
 end_of (kept.Ended ended) = Some ended
 
 -- the end of a root, which is that other one where its value holds a future
@@ -96,9 +100,10 @@ end_by escape (Some ended) = Some (unless_escaping escape ended)
 abbrev pub end_at : Attempt → Option TaskEnd
 end_at tree = end_by tree.escape (option_and_then (λ t. end_of t.stage) (named tree.root tree.tasks))
 
--- a task that goes on is inside a transaction
+-- the machine of a task that has not ended is inside a transaction
 abbrev pub IsInside : KeptStage → Type 0
 IsInside (kept.Going machine) = machine.inside ≡ true
+IsInside (kept.Closing closing) = closing.machine.inside ≡ true
 IsInside (kept.Ended ended) = Unit {0}
 
 -- what is known there of the tasks: a task that is known covers what is known, but for what it came to know itself
@@ -114,7 +119,7 @@ pub record AreKin (tasks : Named Task) : Type 0 where
   pub there : (name : Name) (t : Task) → named name tasks ≡ Some t → IsOfTasks tasks t.knows
   pub kin : (name : Name) (t : Task) → named name tasks ≡ Some t → IsKin tasks t.knows
 
--- the tasks of an attempt: the root is there; all that go on are inside a transaction; what they know is of one another; and their
+-- the tasks of an attempt: the root is there; all that have not ended are inside a transaction; what they know is of one another; and their
 -- names rise
 pub record AreTasks (root : Name) (tasks : Named Task) : Type 0 where
   pub rooted : IsSome (named root tasks)
@@ -127,7 +132,7 @@ pub record IsKept (name : Name) (moved : Evaluation) (tasks : Named Task) : Type
   pub task : Task
   pub there : named name tasks ≡ Some task
   pub machine : Evaluation
-  pub going : task.stage ≡ kept.Going machine
+  pub going : machine_at task.stage ≡ Some machine
   pub same : IsSame machine moved
 
 -- that is the log of the root

@@ -34,9 +34,10 @@ abbrev pub IsNoValue : TaskEnd → Type 0
 IsNoValue (end.Value v) = ⊥
 IsNoValue _ = Unit {0}
 
--- it goes on
+-- it has not ended
 abbrev pub IsGoing : KeptStage → Type 0
 IsGoing (kept.Going machine) = Unit {0}
+IsGoing (kept.Closing closing) = Unit {0}
 IsGoing (kept.Ended ended) = ⊥
 
 -- what the join of a child comes to that the task knows

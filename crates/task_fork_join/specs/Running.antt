@@ -12,6 +12,7 @@ use Rattle.serial_model.specs.Standing.{Agrees, Runs, Start}
 use Rattle.serial_model.specs.Task.{Around, transaction}
 use Rattle.task_fork_join.specs.Attempt.{Attempt, end_at, outcome_of, tasks_of}
 use Rattle.task_fork_join.specs.declared.stepped.Stepped.{Stepped}
+use Rattle.task_fork_join.specs.declared.task.Closing.{Closing}
 use Rattle.task_fork_join.specs.declared.task.Stage.{Stage as KeptStage}
 use Rattle.task_fork_join.specs.declared.task.Stage.TheVariants as kept
 use Rattle.task_fork_join.specs.declared.task.Task.{Task}
@@ -31,9 +32,15 @@ pub record IsMachine (start : Start) (machine : Evaluation) : Type 0 where
   pub fuel : machine.fuel ≡ start.fuel
   pub of : IsOf start.program machine
 
--- a task that goes on has such a machine
+-- a task at its value has such a machine, which comes to that value
+pub record IsClosing (start : Start) (closing : Closing) : Type 0 where
+  pub machine : IsMachine start closing.machine
+  pub comes : next start.program closing.machine.body closing.machine.values true closing.machine.answers start.fuel ≡ halt.Value closing.value
+
+-- a task that has not ended has such a machine
 abbrev pub HasMachine : Start → KeptStage → Type 0
 HasMachine start (kept.Going machine) = IsMachine start machine
+HasMachine start (kept.Closing closing) = IsClosing start closing
 HasMachine start (kept.Ended ended) = Unit {0}
 
 -- a task of that transaction, which read no other refs than these

@@ -20,11 +20,10 @@ use Rattle.txn_snapshot.specs.SnapshotTask.{SnapshotTask, private}
 use Rattle.value_core.specs.declared.value.Value.{Value as Datum}
 use Rattle.value_core.specs.Named.{Name, Named, named, IsChanged}
 
--- whether the step waits for a finish, or for a ref
-abbrev pub is_held_back : Stepped → Bool
-is_held_back (stepped.WaitJoin future) = true
-is_held_back (stepped.NotInSnapshot ref) = true
-is_held_back _ = false
+-- whether the step waits for a ref
+abbrev pub is_missing : Stepped → Bool
+is_missing (stepped.NotInSnapshot ref) = true
+is_missing _ = false
 
 -- the task is there, and else as it was
 abbrev pub Gone : KeptStage → Task → Task → Type 0

@@ -8,8 +8,8 @@ ghost use Rattle.value_core.specs.Named.{is_among, named};
 
 use crate::copies::copy_parts;
 use crate::joining::{known, take_in};
-use crate::task::{Parts, Stage, Task};
-use crate::tasks::{go, set, task_of};
+use crate::task::{Closing, Parts, Stage, Task};
+use crate::tasks::{set, task_of};
 use crate::{Stepped, TaskEnd};
 use eval_step::Machine;
 use std::alloc::{AllocError, Global};
@@ -17,11 +17,12 @@ use std::collections::BTreeMap;
 use std::mem;
 use value_core::{Name, Value};
 
-/// What comes of the joins at the value of a task: all are passed; it waits for one; or one ended otherwise.
+/// What comes of the joins at the value of a task: all are passed; it waits for the thing with that number, which is the task of
+/// that future; or one ended otherwise.
 #[derive(Drop)]
 pub(crate) enum Went {
     On,
-    Waits(Name),
+    Waits(Name, u32),
     Ended(TaskEnd),
 }
 
@@ -33,7 +34,7 @@ pub(crate) struct Closed {
 }
 
 /// The task of that name is at its value: it joins its children that it has not joined, and ends, unless one of them has not
-/// finished.
+/// finished: then it has joined those before that one, and goes on from there.
 pub(crate) fn close(
     tasks: &mut BTreeMap<Name, Task>,
     alloc: Global,
@@ -56,8 +57,9 @@ fn joins_of(tasks: &BTreeMap<Name, Task>, alloc: Global, name: &Name) -> Result<
     requires kin { AreKin tasks.now.entries }
     ensures { IfOk result (AreJoins name.now tasks.now.entries) }
 {
-    let mut parts = copy_parts(alloc, task_of(tasks, name))?;
-    let went = close_children(tasks, alloc, &mut parts)?;
+    let task = task_of(tasks, name);
+    let mut parts = copy_parts(alloc, task)?;
+    let went = close_children(tasks, alloc, &mut parts, task.stage.next())?;
     Ok(Closed { parts, went })
 }
 
@@ -74,30 +76,37 @@ fn stop(
     let Closed { parts, went } = closed;
     match went {
         Went::On => finish(tasks, name, moved, parts, TaskEnd::Value(value)),
-        Went::Waits(future) => {
-            go(tasks, name, Stage::Going(moved));
+        Went::Waits(future, next) => {
+            let machine = moved;
+            let closing = Closing {
+                machine,
+                value,
+                next,
+            };
+            set(tasks, name, parts, Stage::Closing(closing));
             Stepped::WaitJoin(future)
         }
         Went::Ended(ended) => finish(tasks, name, moved, parts, ended),
     }
 }
 
-/// Joins the children that are not joined, in the order of their forks, up to one that has not finished or that ended
-/// otherwise.
+/// Joins the children that are not joined, in the order of their forks, from the thing with that number on, up to one that has
+/// not finished or that ended otherwise.
 fn close_children(
     tasks: &BTreeMap<Name, Task>,
     alloc: Global,
     parts: &mut Parts,
+    from: u32,
 ) -> Result<Went, AllocError>
     requires kin { AreKin tasks.now.entries }
     requires own { IsKin tasks.now.entries parts.old.knows }
     requires there { IsOfTasks tasks.now.entries parts.old.knows }
-    ensures { IfOk result (AllWent tasks.now.entries parts.old parts.new) }
+    ensures { IfOk result (AllWent tasks.now.entries from parts.old parts.new) }
 {
-    for number in 0..parts.log.made() {
+    for number in from..parts.log.made() {
         match close_child(tasks, alloc, parts, number)? {
             Went::On => {}
-            Went::Waits(future) => return Ok(Went::Waits(future)),
+            Went::Waits(future, next) => return Ok(Went::Waits(future, next)),
             Went::Ended(ended) => return Ok(Went::Ended(ended)),
         }
     }
@@ -119,24 +128,26 @@ fn close_child(
         return Ok(Went::On);
     }
     match known(tasks, &parts.knows, &future) {
-        Some(child) => close_task(alloc, parts, child, future),
+        Some(child) => close_task(alloc, parts, child, future, number),
         None => Ok(Went::On),
     }
 }
 
-/// Joins the child of that future.
+/// Joins the child of that future, which is the thing with that number.
 fn close_task(
     alloc: Global,
     parts: &mut Parts,
     child: &Task,
     future: Name,
+    number: u32,
 ) -> Result<Went, AllocError>
     requires apart { is_among future parts.old.log.log.joined ≡ false }
     requires covers { Covers parts.old.knows child.now.knows }
-    ensures { IfOk result (WentAt child.now.stage future child.now parts.old parts.new) }
+    ensures { IfOk result (WentAt child.now.stage future number child.now parts.old parts.new) }
 {
     match &child.stage {
-        Stage::Going(_) => Ok(Went::Waits(future)),
+        Stage::Going(_) => Ok(Went::Waits(future, number)),
+        Stage::Closing(_) => Ok(Went::Waits(future, number)),
         Stage::Ended(TaskEnd::Value(_)) => {
             take_in(alloc, parts, child, &future)?;
             Ok(Went::On)

@@ -5,7 +5,7 @@ ghost use Rattle.task_fork_join.specs.Closing.{ArePartsOf};
 ghost use Rattle.task_fork_join.specs.Stepping.{IsGiven};
 ghost use Rattle.value_core.specs.Named.{Rises};
 
-use crate::task::{Parts, Stage, Task};
+use crate::task::{Closing, Parts, Stage, Task};
 use eval_step::Machine;
 use serial_model::Answer;
 use std::alloc::{AllocError, Global};
@@ -55,8 +55,21 @@ fn copy_stage(alloc: Global, stage: &Stage) -> Result<Stage, AllocError>
 {
     match stage {
         Stage::Going(machine) => Ok(Stage::Going(machine.copy(alloc)?)),
+        Stage::Closing(closing) => Ok(Stage::Closing(copy_closing(alloc, closing)?)),
         Stage::Ended(ended) => Ok(Stage::Ended(ended.copy(alloc)?)),
     }
+}
+
+/// The same task at its value.
+fn copy_closing(alloc: Global, closing: &Closing) -> Result<Closing, AllocError>
+    ensures { IfOk result (λ copied. copied ≡ closing.now) }
+{
+    let machine = closing.machine.copy(alloc)?;
+    Ok(Closing {
+        machine,
+        value: closing.value.copy(alloc)?,
+        next: closing.next,
+    })
 }
 
 /// The machine goes on with the answer.

@@ -102,6 +102,7 @@ fn meet_child(alloc: Global, task: &Task, child: &Task, future: &Name) -> Result
 {
     match &child.stage {
         Stage::Going(_) => Ok(Met::Unfinished),
+        Stage::Closing(_) => Ok(Met::Unfinished),
         Stage::Ended(TaskEnd::Value(value)) => {
             let value = value.copy(alloc)?;
             if task.log.has_joined(future) {

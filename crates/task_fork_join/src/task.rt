@@ -1,4 +1,7 @@
 ghost use Rattle.std.specs.Prelude.{◌≡◌, OnErr, OnOk};
+ghost use Rattle.std.specs.Option.{option_copied};
+ghost use Rattle.task_fork_join.specs.Attempt.{machine_at};
+ghost use Rattle.task_fork_join.specs.Closing.{next_join};
 ghost use Rattle.task_fork_join.specs.Stepping.{HasActed};
 ghost use Rattle.txn_snapshot.specs.SnapshotAnswer.{snapshot_of, IsAnswerable};
 
@@ -9,13 +12,47 @@ use ref_store::Store;
 use serial_model::Request;
 use std::alloc::{AllocError, Global};
 use txn_snapshot::{Answered, TaskLog};
-use value_core::Name;
+use value_core::Value;
 
-/// Where a task is: it goes on, or it ended.
+/// Where a task is: it goes on; it is at its value, and has joined some of its children; or it ended.
 #[derive(Drop)]
 pub(crate) enum Stage {
     Going(Machine),
+    Closing(Closing),
     Ended(TaskEnd),
+}
+
+/// A task at its value: the machine that comes to that value, and the number of the thing that it made from which its joins go
+/// on.
+#[derive(Drop)]
+pub(crate) struct Closing {
+    pub(crate) machine: Machine,
+    pub(crate) value: Value,
+    pub(crate) next: u32,
+}
+
+impl Stage {
+    /// The machine of a task that has not ended.
+    pub(crate) fn machine(&self) -> Option<&Machine>
+        ensures { option_copied result ≡ machine_at self.now }
+    {
+        match self {
+            Stage::Going(machine) => Some(machine),
+            Stage::Closing(closing) => Some(&closing.machine),
+            Stage::Ended(_) => None,
+        }
+    }
+
+    /// The number of the thing that the task made from which its joins at its value go on.
+    pub(crate) fn next(&self) -> u32
+        ensures { result ≡ next_join self.now }
+    {
+        match self {
+            Stage::Going(_) => 0,
+            Stage::Closing(closing) => closing.next,
+            Stage::Ended(_) => 0,
+        }
+    }
 }
 
 /// A task of a tree: what it has done, the futures whose results it knows, and where it is.

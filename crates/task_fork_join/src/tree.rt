@@ -118,17 +118,14 @@ impl Tree {
     pub fn machine(&self, task: &Name) -> Option<&Machine>
         ensures { option_copied result ≡ machine_of self.now task.now }
     {
-        match &find(&self.tasks, task)?.stage {
-            Stage::Going(machine) => Some(machine),
-            Stage::Ended(_) => None,
-        }
+        find(&self.tasks, task)?.stage.machine()
     }
 
     /// A step of the task, whose kept machine was moved to that halt, as a run of a copy of it does. A request is answered on the store at the snapshot, or
     /// by the value of the plain task that is asked for, where it has one. `WaitJoin` comes exactly where the future that is
     /// asked for, or the first child that is still to be joined at the task's value, has not finished; `NotInSnapshot`
     /// exactly where a deref or a ref-set names a ref that is nowhere; with both the tree keeps the machine as moved, and else
-    /// stays. For want of memory the tree stays.
+    /// stays, but that a task at its value has joined the children before that one. For want of memory the tree stays.
     pub fn step(
         &mut self,
         alloc: Global,
@@ -292,6 +289,7 @@ impl Tree {
     {
         match &self.root_task().stage {
             Stage::Going(_) => None,
+            Stage::Closing(_) => None,
             Stage::Ended(ended) => Some(self.unless_escaping(ended)),
         }
     }

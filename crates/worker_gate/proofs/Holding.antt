@@ -2,12 +2,12 @@
 use Rattle.std.proofs.Common.{◌≡◌, ◌∙◌, List, [], append-nil, refl, sym, ap, subst}
 use Rattle.std.specs.Prelude.{Some, Result, Ok, Err, IfOk, OnErr}
 use Rattle.core_syntax.specs.Table.{Table}
-use Rattle.interleave_core.specs.Back.{IsBack}
-use Rattle.interleave_core.specs.Claims.{IsAbandoned, IsClaimOn}
+use Rattle.lent_pieces.specs.Back.{IsBack}
+use Rattle.lent_pieces.specs.Claims.{IsAbandoned, IsClaimOn}
 use Rattle.interleave_core.specs.declared.error.ClaimNo.{ClaimNo}
 use Rattle.interleave_core.specs.declared.error.StepNo.{StepNo}
 use Rattle.interleave_core.specs.Grown.{history_seen, setup_seen, IsDone}
-use Rattle.interleave_core.specs.Over.{IsRunOver}
+use Rattle.run_end.specs.Over.{IsRunOver}
 use Rattle.serial_model.specs.Limits.{Budget}
 use Rattle.serial_model.specs.State.{Setup}
 use Rattle.shared_world.proofs.Later.{gave-later}

@@ -1,5 +1,5 @@
 -- What becomes of actors and of their mail.
-use Rattle.std.specs.Prelude.{◌≡◌, ◌++◌, ◌∷◌, [], ℕ, List, Option, None, Some, Bool, true, false, cond, map}
+use Rattle.std.specs.Prelude.{◌≡◌, ◌||◌, ◌++◌, ◌∷◌, [], ℕ, List, Option, None, Some, Bool, true, false, cond, is_some, map}
 use Rattle.std.specs.Option.{option_map}
 use Rattle.actor_mailbox.specs.declared.message.Message.{Message}
 use Rattle.actor_mails.specs.Mails.{Mail, IsMailed, mail_at}
@@ -19,11 +19,15 @@ use Rattle.unit_table.specs.declared.piece.Piece.TheVariants as piece
 use Rattle.unit_table.specs.declared.unit.Unit.{Unit}
 use Rattle.value_core.specs.declared.value.Value.{Value}
 use Rattle.value_core.specs.declared.value.Value.TheVariants as value
-use Rattle.value_core.specs.Named.{Name}
+use Rattle.value_core.specs.Named.{Name, Named, named}
 use Rattle.world_model.specs.Message.{settled}
 use Rattle.world_model.specs.rows.Commits.{effects_actors}
 
--- an idle actor with mail can begin a turn; another one rests
+-- an actor has a turn where the message of one is taken whose begin is held, or where it is busy
+abbrev pub has_turn : Named Message → Name → ActorState → Bool
+has_turn taken a state = is_some (named a taken) || state.busy
+
+-- an actor with mail that has no turn can begin one; another one rests
 abbrev pub actor_mark : Bool → List Message → Mark
 actor_mark true mail = mark.Resting
 actor_mark false [] = mark.Resting
@@ -43,12 +47,17 @@ abbrev pub roused : Piece → Piece
 roused (piece.Actor actor) = piece.Actor (record actor { mark = mark_roused actor.state.busy actor.mark })
 roused p = p
 
+-- it can, unless a turn of it is begun
+abbrev pub roused_unless : Bool → Option Piece → Option Piece
+roused_unless true found = found
+roused_unless false found = option_map roused found
+
 -- Settled: the message is the last of that actor's mail
 pub record Sends (old : Shared) (u : Name) (x : Unit) (to : Name) (args : List Value) (found : Given) (new : Shared) : Type 0 where
   pub mails : Mail
   pub mailed : IsMailed to (mail_at old.mails to ++ settled u args ∷ []) old.mails mails
   pub board : Board
-  pub rouses : IsPutAt to (option_map roused (piece_at old.board to)) old.board board
+  pub rouses : IsPutAt to (roused_unless (is_some (named to old.taken)) (piece_at old.board to)) old.board board
   pub settles : Settles (record old { board = board; mails = mails }) u x (answered (unit_state x) value.Nil) found new
 
 -- Settled: an idle actor is there, and the unit goes on with its address
@@ -71,7 +80,7 @@ abbrev pub spawned : List Effect → Name → Option ActorState
 spawned effects = effects_actors effects (λ name. None)
 
 -- what stands under a name after effects: a new actor; or what stood there, which has mail now where something was sent to it
-abbrev pub acted : Option ActorState → List (List Value) → List Message → Option Piece → Option Piece
-acted (Some state) sent mail found = Some (actor_with state mail)
-acted None [] mail found = found
-acted None (args ∷ more) mail found = option_map roused found
+abbrev pub acted : Bool → Option ActorState → List (List Value) → List Message → Option Piece → Option Piece
+acted begun (Some state) sent mail found = Some (actor_with state mail)
+acted begun None [] mail found = found
+acted begun None (args ∷ more) mail found = roused_unless begun found

@@ -21,6 +21,7 @@ use Rattle.task_fork_join.specs.Attempt.{Attempt, IsNew, IsRootLog}
 use Rattle.task_fork_join.specs.Running.{IsRootMachine}
 use Rattle.txn_snapshot.specs.SnapshotTask.{SnapshotTask}
 use Rattle.unit_table.specs.Board.{Board, IsPutAt, piece_at}
+use Rattle.unit_table.specs.declared.mark.Mark.{Mark}
 use Rattle.unit_table.specs.declared.mark.Mark.TheVariants as mark
 use Rattle.unit_table.specs.declared.mark.WaitOn.TheVariants as wait
 use Rattle.unit_table.specs.declared.mark.Work.TheVariants as work
@@ -38,18 +39,22 @@ pub record IsFreshAttempt (old : Shared) (u : Name) (x : Unit) (body : NodeId) (
   pub root_machine : IsRootMachine (start_of old.setup u (unit_state x) body values) machine
   pub new : IsNew (next_made u (unit_state x)) machine (actor_of x.kind) (length old.history) old.setup.limits.fuel at tree
 
--- Began: the unit has an attempt of its root alone, which can go on, and waits for that root
-pub record Begins (old : Shared) (u : Name) (x : Unit) (body : NodeId) (values : List Value) (at : Spot) (found : Given) (new : Shared) : Type 0 where
+-- Began: the unit has an attempt of its root alone, which can go on, and has that mark
+pub record BeginsMarked (old : Shared) (u : Name) (x : Unit) (m : Mark) (body : NodeId) (values : List Value) (at : Spot) (found : Given) (new : Shared) : Type 0 where
   pub found_is : found ≡ given.Began (length old.history)
   pub tree : Attempt
   pub fresh : IsFreshAttempt old u x body values at tree
   pub none : piece_at old.board (next_made u (unit_state x)) ≡ None
   pub board : Board
   pub root : IsPutAt (next_made u (unit_state x)) (Some (piece.Task (mark.Ready work.Eval))) old.board board
-  pub waits : IsMarkedUnit old.setup u x (mark.Waiting (wait.Finish (next_made u (unit_state x)))) board new.board
+  pub waits : IsMarkedUnit old.setup u x m board new.board
   pub attempts : new.attempts ≡ with_named old.attempts u tree
   pub owners : new.owners ≡ with_named old.owners (next_made u (unit_state x)) u
   pub others : new ≡ record old { attempts = new.attempts; owners = new.owners; board = new.board }
+
+-- and waits for that root
+abbrev pub Begins : Shared → Name → Unit → NodeId → List Value → Spot → Given → Shared → Type 0
+Begins old u x body values at found new = BeginsMarked old u x (mark.Waiting (wait.Finish (next_made u (unit_state x)))) body values at found new
 
 -- the attempt of that unit is gone, and every other one stays
 abbrev pub IsWithout : {X : Type 0} → Name → Named X → Named X → Type 0
@@ -86,7 +91,7 @@ pub record HasDone (tree : Attempt) (log : SnapshotTask) : Type 0 where
 -- piece stays.
 pub record ActorsAct (effects : List Effect) (base : Shared) (board : Board) (new : Shared) : Type 0 where
   pub none : (a : Name) (actor : ActorState) → spawned effects a ≡ Some actor → piece_at base.board a ≡ None
-  pub pieces : (a : Name) → piece_at new.board a ≡ acted (spawned effects a) (effects_to a effects) (mail_at new.mails a) (piece_at board a)
+  pub pieces : (a : Name) → piece_at new.board a ≡ acted (is_some (named a base.taken)) (spawned effects a) (effects_to a effects) (mail_at new.mails a) (piece_at board a)
 
 -- Settled: the writes of the attempt are the newest versions, what it printed is printed, its actors are there, what it sent is the
 -- last of their mail, and the unit goes on with its value.

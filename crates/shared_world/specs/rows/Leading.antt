@@ -22,9 +22,9 @@ use Rattle.serial_model.specs.Step.{idle, next_made, next_of}
 use Rattle.shared_world.specs.Ahead.{Ahead}
 use Rattle.shared_world.specs.declared.given.Given.{Given}
 use Rattle.shared_world.specs.declared.given.Given.TheVariants as given
-use Rattle.shared_world.specs.rows.Actors.{actor_with, roused}
-use Rattle.shared_world.specs.rows.Attempts.{Begins}
-use Rattle.shared_world.specs.rows.Pieces.{Ends, EndsBy, IsUnitAt}
+use Rattle.shared_world.specs.rows.Actors.{actor_with, roused_unless}
+use Rattle.shared_world.specs.rows.Attempts.{BeginsMarked}
+use Rattle.shared_world.specs.rows.Pieces.{ClaimsEnd, Ends, EndsBy, IsUnitAt}
 use Rattle.shared_world.specs.Seen.{left_at, one_or_none}
 use Rattle.shared_world.specs.Shared.{Shared, unit_state}
 use Rattle.task_fork_join.specs.Attempt.{Attempt}
@@ -62,10 +62,18 @@ abbrev pub is_definite : Named Message → Option Name → Bool
 is_definite taken None = true
 is_definite taken (Some actor) = is_settled (named actor taken)
 
--- a definite turn that holds something settles that next; another one evaluates
-abbrev pub mark_ahead : Bool → Mark
-mark_ahead true = mark.Ready work.Settle
-mark_ahead false = mark.Ready work.Eval
+-- it runs ahead and is definite: what it holds can be settled
+abbrev pub settles_next : Named Message → Option Ahead → Bool
+settles_next taken None = false
+settles_next taken (Some h) = is_definite taken h.takes
+
+abbrev pub can_settle : Shared → Name → Bool
+can_settle s u = settles_next s.taken (named u s.aheads)
+
+-- a definite turn that holds something settles that next; another one has that mark
+abbrev pub mark_ahead : Bool → Mark → Mark
+mark_ahead true m = mark.Ready work.Settle
+mark_ahead false m = m
 
 -- ---- one effect more is held
 -- what an actor is still to answer for: the message of the turn whose begin is held, and its mail
@@ -75,11 +83,6 @@ line_at s actor = one_or_none (named actor s.taken) ++ mail_at s.mails actor
 -- those of the turn's sends to an actor that are kept: they are the last
 abbrev pub kept_of_turn : Shared → Name → Ahead → Name → List Message
 kept_of_turn s u h to = drop (length (unsettled u (line_at s to))) (map (tentative u u) (sends_to to h.held))
-
--- an idle actor that rests can begin a turn once there is mail, unless one is begun; anything else is as it was
-abbrev pub roused_unless : Bool → Option Piece → Option Piece
-roused_unless true found = found
-roused_unless false found = option_map roused found
 
 -- A send is put at once where its receiver is there and no earlier send of the turn to it is kept. Else it is kept.
 pub data Puts (old : Shared) (u : Name) (h : Ahead) (to : Name) (args : List Value) (mails : Mail) (board : Board) : Type 0 where
@@ -93,7 +96,7 @@ pub record HoldsOn (base : Shared) (u : Name) (x : Unit) (h : Ahead) (r : Reques
   pub after : UnitState
   pub gives : ahead u (unit_state x) r ≡ Some after
   pub unit : Unit
-  pub stands : IsUnitAt base.setup x unit after (mark_ahead (is_definite base.taken h.takes))
+  pub stands : IsUnitAt base.setup x unit after (mark_ahead (is_definite base.taken h.takes) (mark.Ready work.Eval))
   pub put : IsPutAt u (Some (piece.Unit unit)) base.board new.board
   pub aheads : IsChanged u (Some (record h { held = h.held ++ r ∷ []; waits = false })) base.aheads new.aheads
   pub others : new ≡ record base { board = new.board; aheads = new.aheads }
@@ -110,11 +113,11 @@ abbrev pub LeadHolds : Shared → Name → Unit → Ahead → Request → Given 
 LeadHolds old u x h (request.Send to args) found new = SendsAhead old u x h to args found new
 LeadHolds old u x h r found new = HoldsOn old u x h r found new
 
--- Waiting: the turn waits until it is definite and holds nothing, and all else stays
+-- Waiting: the turn waits until it is definite, or settles what it holds where it is; all else stays
 pub record WaitsDefinite (old : Shared) (u : Name) (x : Unit) (h : Ahead) (found : Given) (new : Shared) : Type 0 where
   pub found_is : found ≡ given.Waiting (wait.Definite u)
   pub unit : Unit
-  pub stands : IsUnitAt old.setup x unit (unit_state x) (mark.Waiting (wait.Definite u))
+  pub stands : IsUnitAt old.setup x unit (unit_state x) (mark_ahead (is_definite old.taken h.takes) (mark.Waiting (wait.Definite u)))
   pub put : IsPutAt u (Some (piece.Unit unit)) old.board new.board
   pub aheads : IsChanged u (Some (record h { waits = true })) old.aheads new.aheads
   pub others : new ≡ record old { board = new.board; aheads = new.aheads }
@@ -210,25 +213,21 @@ pub record ForksHeld (old : Shared) (name : Name) (body : NodeId) (values : List
   pub put : IsPutAt name (Some (piece.Unit child)) old.board base.board
   pub others : base ≡ record old { made = suc old.made; board = base.board }
 
--- a turn that holds something is ready to settle once it is definite, unless a claim on it is out
-abbrev pub mark_settles : Mark → Mark
-mark_settles (mark.Waiting (wait.Definite turn)) = mark.Ready work.Settle
-mark_settles (mark.Ready work.Eval) = mark.Ready work.Settle
-mark_settles m = m
+-- a turn that holds something is ready to settle once it is definite; where a claim on it is out it stays ready for what it was
+abbrev pub mark_settles : Bool → Mark → Mark
+mark_settles lent (mark.Waiting on) = mark.Ready work.Settle
+mark_settles false (mark.Ready work.Eval) = mark.Ready work.Settle
+mark_settles lent m = m
 
-abbrev pub settles_now : Piece → Piece
-settles_now (piece.Unit x) = piece.Unit (record x { mark = mark_settles x.mark })
-settles_now p = p
-
-abbrev pub settles_unless : Bool → Option Piece → Option Piece
-settles_unless true found = found
-settles_unless false found = option_map settles_now found
+abbrev pub settles_now : Bool → Piece → Piece
+settles_now lent (piece.Unit x) = piece.Unit (record x { mark = mark_settles lent x.mark })
+settles_now lent p = p
 
 -- The first message that depends on the turn is settled: the one that its receiver took for a turn whose begin is held, which is
 -- definite then; or one of the mail, in its place. Where there is none the message is the last of the mail.
 pub data SendsHeld (old : Shared) (u to : Name) (args : List Value) (base : Shared) : Type 0 where
   taken : (m : Message) (actor : ActorState) → named to old.taken ≡ Some m → m.depends ≡ Some u → actor_at old.board to ≡ Some actor → IsChanged to (Some (definite m)) old.taken base.taken
-      → IsPutAt (made_by to actor.turns) (settles_unless (is_some (lent_at old.board (made_by to actor.turns))) (piece_at old.board (made_by to actor.turns))) old.board base.board
+      → IsPutAt (made_by to actor.turns) (option_map (settles_now (is_some (lent_at old.board (made_by to actor.turns)))) (piece_at old.board (made_by to actor.turns))) old.board base.board
       → base ≡ record old { taken = base.taken; board = base.board } → SendsHeld old u to args base
   mailed : has_put u (one_or_none (named to old.taken)) ≡ false → IsMailed to (settle_or_put (same_name u) (settled u args) (mail_at old.mails to)) old.mails base.mails
       → IsPutAt to (roused_unless (is_some (named to old.taken)) (piece_at old.board to)) old.board base.board → base ≡ record old { mails = base.mails; board = base.board } → SendsHeld old u to args base
@@ -259,14 +258,14 @@ NextSettles old u x h (Some a) held found new = (g : SettlesBegin old u x h a) �
 NextSettles old u x h None (r ∷ rest) found new = FirstSettles old u x h r rest found new
 NextSettles old u x h None [] found new = ⊥
 
--- a turn that runs ahead begins an attempt, where it has none
-abbrev pub LeadTries : Shared → Name → Unit → NodeId → List Value → Spot → Option Attempt → Given → Shared → Type 0
-LeadTries old u x body values at None found new = Begins old u x body values at found new
-LeadTries old u x body values at (Some tree) found new = ⊥
+-- a turn that runs ahead begins an attempt, where it has none, and waits for its root until it is definite
+abbrev pub LeadTries : Shared → Name → Unit → Ahead → NodeId → List Value → Spot → Option Attempt → Given → Shared → Type 0
+LeadTries old u x h body values at None found new = BeginsMarked old u x (mark_ahead (is_definite old.taken h.takes) (mark.Waiting (wait.Finish (next_made u (unit_state x))))) body values at found new
+LeadTries old u x h body values at (Some tree) found new = ⊥
 
 -- what it comes to by where its machine halts, while it is not definite or holds something
 abbrev pub LeadGoes : Shared → Name → Unit → Ahead → Halt → Given → Shared → Type 0
-LeadGoes old u x h (halt.Ask (request.Dosync body values) at) found new = LeadTries old u x body values at (named u old.attempts) found new
+LeadGoes old u x h (halt.Ask (request.Dosync body values) at) found new = LeadTries old u x h body values at (named u old.attempts) found new
 LeadGoes old u x h (halt.Ask (request.Deref ref) at) found new = WaitsDefinite old u x h found new
 LeadGoes old u x h (halt.Ask (request.RefSet ref v) at) found new = WaitsDefinite old u x h found new
 LeadGoes old u x h (halt.Ask (request.Join future) at) found new = WaitsDefinite old u x h found new
@@ -288,6 +287,7 @@ pub record GaveLead (old : Shared) (name : Name) (claimed : Work) (found : Given
   pub ahead : Ahead
   pub leads : named name old.aheads ≡ Some ahead
   pub gives : LeadGives old name unit ahead (is_definite old.taken ahead.takes && is_to_settle claimed) found new
+  pub claims : ClaimsEnd (λ q. same_name q name) old new
 
 -- ---- how a turn comes to run ahead
 -- a turn that has just begun, and whose begin is held
@@ -321,3 +321,4 @@ pub record GaveTentative (old : Shared) (a : Name) (found : Given) (new : Shared
   pub behaviour : Behaviour
   pub behaves : slice_get old.setup.program.behaviours actor.state.behaviour ≡ Some behaviour
   pub takes : TakesAhead old a actor.state first rest behaviour found new
+  pub claims : ClaimsEnd (λ q. same_name q a) old new

@@ -84,6 +84,7 @@ returns c =
     (subst (λ vs. ArePrunedFor left vs c.prune.new.store.versions) (c.commit.ensures.versions ∙ ap (λ (s : Shared). committed s.versions g.writes.items p.number) same.rest) c.prune.ensures.pruned))
     c.settle-given.ensures.found c.settle-given.ensures.set
     (λ a some. sym (same.pieces a) ∙ (is.actors a some).none)
+    (λ a. refl)
     (subst (λ (m : Mail). AreDone u g.deeds m new.mails settled.units new.board) mails c.do_deeds.ensures.done)
     (so
     ∙ ap (λ (s : Shared). record s { history = s.history ++ Run u ∷ []; versions = c.prune.new.store.versions; attempts = left; bytes = c.extend_from_slice.new.self.items; board = new.board; mails = new.mails }) same.rest

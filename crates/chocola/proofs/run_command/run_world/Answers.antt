@@ -1,7 +1,7 @@
 use Rattle.std.proofs.Common.{◌≡◌, ◌∙◌, ap, subst}
 use Rattle.std.specs.Prelude.{IfSome, OnOk}
 use Rattle.std.specs.Io.KnownBytes.{append_known}
-use Rattle.interleave_core.specs.Over.{IsOverWith}
+use Rattle.run_end.specs.Over.{IsOverWith}
 use Rattle.world_io.specs.Taken.{CountsWrite}
 use Rattle.command_phases.specs.Outcome.{Finished}
 use Rattle.command_phases.proofs.Said.{SaysOutcome-unreported}

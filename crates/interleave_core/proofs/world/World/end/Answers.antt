@@ -2,7 +2,7 @@ use Rattle.std.proofs.Common.{◌≡◌, subst}
 use Rattle.std.specs.Option.{option_copied}
 use Rattle.std.specs.Prelude.{Some, ◌↔◌}
 use Rattle.interleave_core.proofs.world.World.end.Goals as goal
-use Rattle.interleave_core.specs.Over.{IsOverWith}
+use Rattle.run_end.specs.Over.{IsOverWith}
 use Rattle.serial_model.specs.declared.end.End.{End}
 use Rattle.shared_world.specs.Shared.{Shared}
 

@@ -9,4 +9,4 @@ use Rattle.value_core.specs.Named.{is_among}
 pub returns-clause-among : goal.returns-clause-among
 returns-clause-among c =
     let none = nil_from_length (into_iter_items c.loop-name.name-iterator) (sym c.loop-name.name-iterator.rest.ok.0 ∙ c.in-None.ensures.steps.0) in
-    λ q. ap (is_among q) (ap (fold with_member c.loop-name.self) (sym none) ∙ c.loop-name.invariant) ∙ among-both q c.args.more.now c.args.self.now
+    λ q. ap (is_among q) (ap (fold with_member c.loop-name.both) (sym none) ∙ c.loop-name.invariant) ∙ among-both q c.args.more.now c.args.self.now

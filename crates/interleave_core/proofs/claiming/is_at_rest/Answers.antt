@@ -1,5 +1,0 @@
-use Rattle.std.proofs.Common.{◌≡◌, ◌∙◌, false, sym, true}
-use Rattle.interleave_core.proofs.claiming.is_at_rest.Goals as goal
-
-pub returns-in-Some : goal.returns-in-Some
-returns-in-Some c = (λ yes. cc, λ rest. let no : true ≡ false = sym c.in-Some.ensures.some ∙ rest.units c.in-Some.field-0.now in cc)

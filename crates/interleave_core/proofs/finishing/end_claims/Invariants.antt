@@ -1,6 +1,0 @@
--- The claims on what was passed have ended.
-use Rattle.interleave_core.proofs.finishing.end_claims.Given as goal
-use Rattle.interleave_core.specs.Finishing.{AreEnding, LentAfter}
-
-abbrev pub invariant-loop : goal.invariant-loop
-invariant-loop l = record { ending : AreEnding l.fn.units l.units; after : LentAfter l.passed l.units }

@@ -1,0 +1,5 @@
+pub mod Given
+pub mod Lending
+pub mod Returning
+pub mod Stale
+pub mod Waits

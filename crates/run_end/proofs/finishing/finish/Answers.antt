@@ -1,0 +1,50 @@
+use Rattle.std.proofs.Common.{sym, subst}
+use Rattle.run_end.proofs.Ends.{cleared-marks, cleared-stands, cleared-turns, over-none-tried}
+use Rattle.run_end.proofs.Turns.{turns-later, turns-then}
+use Rattle.run_end.proofs.Walked.{walked-first}
+use Rattle.run_end.proofs.finishing.finish.Goals as goal
+use Rattle.world_steps.specs.Kept.{shared_of}
+use Rattle.shared_world.specs.Marks.{HasMarks}
+use Rattle.shared_world.specs.Stands.{Stands}
+use Rattle.task_fork_join.specs.Attempt.{Attempt}
+use Rattle.value_core.specs.Named.{Named}
+
+pub returns-clause-stands : goal.returns-clause-stands
+returns-clause-stands c =
+    let mid = shared_of c.settle_all.new.kept in
+    subst (λ (es : Named Attempt). Stands (record mid { attempts = es })) (sym c.clear_attempts.ensures)
+    (cleared-stands mid c.settle_all.ensures.goes.stands (over-none-tried mid c.settle_all.ensures.goes.stands c.in_ok-end.end c.in_ok-end.ensures.end))
+
+pub returns-clause-marks : goal.returns-clause-marks
+returns-clause-marks c =
+    let old = shared_of c.args.kept.now in
+    let mid = shared_of c.settle_all.new.kept in
+    λ marks. subst (λ (es : Named Attempt). HasMarks (record mid { attempts = es })) (sym c.clear_attempts.ensures)
+    (cleared-marks mid c.settle_all.ensures.goes.stands (over-none-tried mid c.settle_all.ensures.goes.stands c.in_ok-end.end c.in_ok-end.ensures.end)
+    (c.settle_all.ensures.goes.marks (c.in_ok-withdraw.ensures.goes.marks marks)))
+
+pub settle_all-requires-clause-walked : goal.settle_all-requires-clause-walked
+settle_all-requires-clause-walked c = walked-first (shared_of c.withdraw.new.kept) c.in_ok-withdraw.ensures.tried
+
+pub returns-in_err-withdraw-clause-later : goal.returns-in_err-withdraw-clause-later
+returns-in_err-withdraw-clause-later c = turns-later (shared_of c.args.kept.now) (shared_of c.withdraw.new.kept) c.withdraw.ensures.goes.turns
+
+pub returns-in_err-end-clause-turns : goal.returns-in_err-end-clause-turns
+returns-in_err-end-clause-turns c =
+    turns-then (shared_of c.args.kept.now) (shared_of c.withdraw.new.kept) (shared_of c.settle_all.new.kept) c.withdraw.ensures.goes.turns c.settle_all.ensures.goes.turns
+
+pub returns-in_err-end-clause-later : goal.returns-in_err-end-clause-later
+returns-in_err-end-clause-later c =
+    turns-later (shared_of c.args.kept.now) (shared_of c.settle_all.new.kept)
+    (turns-then (shared_of c.args.kept.now) (shared_of c.withdraw.new.kept) (shared_of c.settle_all.new.kept) c.withdraw.ensures.goes.turns c.settle_all.ensures.goes.turns)
+
+pub returns-clause-turns : goal.returns-clause-turns
+returns-clause-turns c =
+    cleared-turns (shared_of c.args.kept.now) (shared_of c.settle_all.new.kept) _
+    (turns-then (shared_of c.args.kept.now) (shared_of c.withdraw.new.kept) (shared_of c.settle_all.new.kept) c.withdraw.ensures.goes.turns c.settle_all.ensures.goes.turns)
+
+pub returns-clause-later : goal.returns-clause-later
+returns-clause-later c =
+    let mid = shared_of c.settle_all.new.kept in
+    turns-later (shared_of c.args.kept.now) (record mid { attempts = c.clear_attempts.new.attempts.entries })
+    (cleared-turns (shared_of c.args.kept.now) mid _ (turns-then (shared_of c.args.kept.now) (shared_of c.withdraw.new.kept) mid c.withdraw.ensures.goes.turns c.settle_all.ensures.goes.turns))

@@ -1,0 +1,82 @@
+-- In which order one thread settles.
+use Rattle.std.specs.Prelude.{◌≡◌, ◌++◌, ◌∷◌, ◌⊎◌, [], false, true, ⊤, IfSome, IsSome, List, None, Option, Some, ℕ}
+use Rattle.std.specs.declared.cmp.Ordering.TheVariants.{Less}
+use Rattle.std.specs.Option.{option_and_then}
+use Rattle.serial_model.specs.declared.entry.Entry.{Entry}
+use Rattle.serial_model.specs.declared.entry.Entry.TheVariants.{Run, Take}
+use Rattle.serial_model.specs.Replay.{replay}
+use Rattle.serial_model.specs.State.{Setup, State, UnitState}
+use Rattle.serial_model.specs.Step.{step}
+use Rattle.shared_world.specs.Rest.{AreFinished}
+use Rattle.shared_world.specs.Shared.{Shared}
+use Rattle.unit_table.specs.Board.{Board, ComesAfter, is_unfinished, piece_at}
+use Rattle.unit_table.specs.declared.piece.Piece.{Piece}
+use Rattle.unit_table.specs.declared.piece.Piece.TheVariants as piece
+use Rattle.unit_table.specs.Piece.{says_finished}
+use Rattle.value_core.specs.Name.{after_cmp}
+use Rattle.value_core.specs.Named.{Name, Named, made_by, named}
+
+-- the name is the other one, or comes before it in after-order
+abbrev pub IsUpTo : Name → Name → Type 0
+IsUpTo u other = (u ≡ other) ⊎ (after_cmp u other ≡ Less)
+
+-- a unit is there that is not finished
+abbrev pub IsOpen : Option UnitState → Type 0
+IsOpen None = ⊥
+IsOpen (Some unit) = unit.finished ≡ None
+
+-- the unit is the first in after-order among those that are not finished
+pub record IsFirst (units : Named UnitState) (u : Name) : Type 0 where
+  pub unfinished : IsOpen (named u units)
+  pub first : (other : Name) → IsOpen (named other units) → IsUpTo u other
+
+-- The entry is in turn: it is a step of that unit, or a turn begins where each unit is finished.
+abbrev pub IsInTurn : State → Entry → Type 0
+IsInTurn s (Run u) = IsFirst s.units u
+IsInTurn s (Take actor sender) = (u : Name) → IsOpen (named u s.units) → ⊥
+
+-- each of the entries is in turn, in the state to which those before it lead
+abbrev pub AreInTurn : Setup → State → List Entry → Type 0
+AreInTurn setup s [] = ⊤
+AreInTurn setup s (entry ∷ entries) = IsInTurn s entry × IfSome (step setup s entry) (λ t. AreInTurn setup t entries)
+
+-- the same is run, and the history goes on from where it was by entries each of which is in turn
+pub record GoesInTurn (old new : Shared) : Type 0 where
+  pub setup : new.setup ≡ old.setup
+  pub more : List Entry
+  pub history : new.history ≡ old.history ++ more
+  pub in_turn : IfSome (replay old.setup old.history) (λ s. AreInTurn old.setup s more)
+
+-- ---- a walk over the pieces in after-order
+-- Each unit that is not finished comes behind what was passed, and a unit that has an attempt is the first of them.
+pub record IsWalked (s : Shared) (passed : Option Name) : Type 0 where
+  pub behind : (u : Name) → is_unfinished s.board u ≡ true → ComesAfter passed u
+  pub tried : (v : Name) → IsSome (named v s.attempts) → (u : Name) → is_unfinished s.board u ≡ true → IsUpTo v u
+
+-- so it is unless the run has ended
+abbrev pub IsWalkedOr : Shared → Option Name → Type 0
+IsWalkedOr s passed = s.end ≡ None → IsWalked s passed
+
+-- The step of the piece is in turn, where it is the first: a unit or a task is not finished, and of an actor each unit is.
+abbrev pub IsDuePiece : Board → Option Piece → Type 0
+IsDuePiece b None = ⊤
+IsDuePiece b (Some (piece.Unit x)) = says_finished x.mark ≡ false
+IsDuePiece b (Some (piece.Task m)) = says_finished m ≡ false
+IsDuePiece b (Some (piece.Actor a)) = AreFinished b
+
+abbrev pub IsDue : Board → Name → Type 0
+IsDue b name = IsDuePiece b (piece_at b name)
+
+-- how many things the piece has made, where it is a unit; and how many turns it began, where it is an actor
+abbrev pub number_in : Piece → Option ℕ
+number_in (piece.Unit x) = Some x.made
+number_in (piece.Task m) = None
+number_in (piece.Actor a) = Some a.state.turns
+
+abbrev pub number_at : Board → Name → Option ℕ
+number_at b name = option_and_then number_in (piece_at b name)
+
+-- What the piece makes next comes behind what is still passed, and so does all that came behind what was passed.
+pub record IsLeft (b : Board) (name : Name) (passed left : Option Name) : Type 0 where
+  pub made : IfSome (number_at b name) (λ k. ComesAfter left (made_by name k))
+  pub behind : (u : Name) → ComesAfter passed u → ComesAfter left u
