@@ -70,7 +70,7 @@ same-wanting old new name st is = record {
 pub settling-wanting : (old new : Shared) (task : Name) (m : Mark) → Stands old → piece_at old.board task ≡ Some (piece.Task m) → IsReadied work.Settle old task new → IsWanting old task new
 settling-wanting old new task m st at is = record {
   stands = marked-task old st task (mark.Ready work.Settle) new (no-unit old.board task m at, ap actor_of_piece at) is.marked;
-  here = inr (record { work = work.Settle; is = is.marked.set.here });
+  here = inr (record { what = work.Settle; left = inr refl; is = is.marked.set.here });
   others = λ other ne. is.marked.set.others other ne;
   claims = is.claims;
   ages = λ u. ap (λ (s : Shared). age_of s u) is.marked.others;
@@ -276,10 +276,10 @@ module _ (old mid : Shared) (st : Stands old) (on_going : is_going old.end ≡ t
       readied-task w readied = record { set = record { here = readied.marked.set.here; others = λ other ne. readied.marked.set.others other ne ∙ mid-piece other }; others = on-base readied.marked.others }
 
       -- the task is ready for that
-      readied-left : (w : Work) → IsReadied w mid task new → (HasMarks old → AreMarked new) → IsWanting old task new
-      readied-left w readied marks = record {
+      readied-left : (w : Work) → (w ≡ work.Eval) ⊎ (w ≡ work.Settle) → IsReadied w mid task new → (HasMarks old → AreMarked new) → IsWanting old task new
+      readied-left w kind readied marks = record {
         stands = marked-task mid taken-stands task (mark.Ready w) new (no-unit mid.board task is.task_in.mark (mid-piece task ∙ is.task_in.there), ap actor_of_piece (mid-piece task ∙ is.task_in.there)) readied.marked;
-        here = inr (record { work = w; is = readied.marked.set.here });
+        here = inr (record { what = w; left = kind; is = readied.marked.set.here });
         others = λ other ne. readied.marked.set.others other ne ∙ mid-piece other;
         claims = λ ticket free. readied.claims ticket (λ lent. free (sym (mid-lent ticket) ∙ lent)) ∙ mid-lent ticket;
         ages = ages-so (on-base readied.marked.others);
@@ -298,10 +298,10 @@ module _ (old mid : Shared) (st : Stands old) (on_going : is_going old.end ≡ t
             (same.pieces task ∙ mid-piece task ∙ is.task_in.there) (λ q other. same.pieces q ∙ mid-piece q) (on-base same.rest);
         rest = rest-so (on-base same.rest);
       }
-      left (left_as.again future waits readied) = readied-left work.Eval readied
+      left (left_as.again future waits readied) = readied-left work.Eval (inl refl) readied
           (λ marks. left-again old st (marks on_going) on_going owner task is.task_in.unit is.tree is.task_in.mark is.task_in.there is.of is.task_in.unit_there is.task_in.attempt before is.machine moved is.kept t.after went step new future waits
           (readied-task work.Eval readied))
-      left (left_as.settles ended readied) = readied-left work.Settle readied
+      left (left_as.settles ended readied) = readied-left work.Settle (inr refl) readied
           (λ marks.
           let end = mid-ended ended in
           left-ended old st (marks on_going) on_going owner task is.task_in.unit is.tree is.task_in.mark is.task_in.there is.of is.task_in.unit_there is.task_in.attempt before is.machine moved is.kept t.after went step new end.0 end.1

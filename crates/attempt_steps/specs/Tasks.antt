@@ -105,13 +105,14 @@ pub record HasStepped (refs : Name → Option Value) (owner task : Name) (moved 
   pub put : new ≡ with_named old owner after
   pub step : IsStep refs task moved outer h tree after went
 
--- that is a task with which something can be done
+-- that is a task that can be evaluated again, or that is ready to settle
 pub record IsReadyTask (found : Option Piece) : Type 0 where
-  pub work : Work
-  pub is : found ≡ Some (piece.Task (mark.Ready work))
+  pub what : Work
+  pub left : (what ≡ work.Eval) ⊎ (what ≡ work.Settle)
+  pub is : found ≡ Some (piece.Task (mark.Ready what))
 
 -- For want of memory the history, the refs, the bytes and the end stay, and so does every other piece; the piece is as it was, or
--- it is a task that is ready; no claim ends but one on it; each attempt began where it did; and the marks are right where
+-- it is a task that can be evaluated again or is ready to settle; no claim ends but one on it; each attempt began where it did; and the marks are right where
 -- they were.
 pub record IsWanting (old : Shared) (name : Name) (new : Shared) : Type 0 where
   pub stands : Stands new

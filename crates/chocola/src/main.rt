@@ -12,7 +12,7 @@ mod schedule_command;
 mod stress_command;
 mod top;
 
-use command_phases::NO_MEMORY;
+use command_phases::out_of_memory;
 use std::alloc::AllocError;
 use std::env;
 use std::io::ErrorKind;
@@ -23,21 +23,20 @@ use worker_gate::NoGate;
 use world_io::{HostErr, HostFiles, HostOut};
 
 fn main(rt: HostRuntime) -> ExitCode {
-    match command_words(&rt) {
-        Ok(words) => {
-            let outcome = chocola(
-                &rt,
-                rt.alloc(),
-                words.as_slice(),
-                &mut HostFiles::new(&rt),
-                &mut HostOut::new(rt.stdout()),
-                &mut HostErr::new(rt.stderr()),
-                &NoGate,
-            );
-            ExitCode::from(outcome.status)
-        }
-        Err(AllocError) => ExitCode::from(NO_MEMORY),
-    }
+    let mut err = HostErr::new(rt.stderr());
+    let outcome = match command_words(&rt) {
+        Ok(words) => chocola(
+            &rt,
+            rt.alloc(),
+            words.as_slice(),
+            &mut HostFiles::new(&rt),
+            &mut HostOut::new(rt.stdout()),
+            &mut err,
+            &NoGate,
+        ),
+        Err(AllocError) => out_of_memory(rt.alloc(), &mut err),
+    };
+    ExitCode::from(outcome.status)
 }
 
 /// The words after the program's name, and none where the host doesn't give them as text.

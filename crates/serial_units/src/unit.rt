@@ -19,13 +19,24 @@ pub struct Becoming {
 
 /// A unit: the actor whose turn it is, where it is one; its evaluation; how many things it has made; what its actor
 /// becomes at its end, where that is said; and its value, where it is finished.
-#[derive(Drop)]
 pub struct Unit {
     pub actor: Option<Name>,
     pub machine: Machine,
     pub made: u32,
     pub becomes: Option<Becoming>,
     pub value: Option<Value>,
+}
+
+impl Drop for Unit {
+    fn drop(self) {
+        let Unit {
+            actor: _actor,
+            machine: _machine,
+            made: _,
+            becomes: _becomes,
+            value: _value,
+        } = self;
+    }
 }
 
 impl Unit {

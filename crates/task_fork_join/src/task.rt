@@ -15,20 +15,38 @@ use txn_snapshot::{Answered, TaskLog};
 use value_core::Value;
 
 /// Where a task is: it goes on; it is at its value, and has joined some of its children; or it ended.
-#[derive(Drop)]
 pub(crate) enum Stage {
     Going(Machine),
     Closing(Closing),
     Ended(TaskEnd),
 }
 
+impl Drop for Stage {
+    fn drop(self) {
+        match self {
+            Stage::Going(_machine) => {}
+            Stage::Closing(_closing) => {}
+            Stage::Ended(_taskend) => {}
+        }
+    }
+}
+
 /// A task at its value: the machine that comes to that value, and the number of the thing that it made from which its joins go
 /// on.
-#[derive(Drop)]
 pub(crate) struct Closing {
     pub(crate) machine: Machine,
     pub(crate) value: Value,
     pub(crate) next: u32,
+}
+
+impl Drop for Closing {
+    fn drop(self) {
+        let Closing {
+            machine: _machine,
+            value: _value,
+            next: _,
+        } = self;
+    }
 }
 
 impl Stage {
@@ -56,11 +74,20 @@ impl Stage {
 }
 
 /// A task of a tree: what it has done, the futures whose results it knows, and where it is.
-#[derive(Drop)]
 pub(crate) struct Task {
     pub(crate) log: TaskLog,
     pub(crate) knows: Known,
     pub(crate) stage: Stage,
+}
+
+impl Drop for Task {
+    fn drop(self) {
+        let Task {
+            log: _log,
+            knows: _knows,
+            stage: _stage,
+        } = self;
+    }
 }
 
 impl Task {

@@ -33,7 +33,6 @@ use value_core::name_map::{find, put};
 use value_core::{Code, Name, Place, Value, Values};
 
 /// The tasks of an attempt at a transaction: its root and those that were forked in it.
-#[derive(Drop)]
 pub struct Tree {
     root: Name,
     tasks: BTreeMap<Name, Task>,
@@ -43,6 +42,20 @@ pub struct Tree {
     fuel: u64,
     // How a root ends whose value holds a future.
     escape: TaskEnd,
+}
+
+impl Drop for Tree {
+    fn drop(self) {
+        let Tree {
+            root: _root,
+            tasks: _tasks,
+            reads: _reads,
+            actor: _actor,
+            snapshot: _,
+            fuel: _,
+            escape: _escape,
+        } = self;
+    }
 }
 
 impl Model for Tree {
@@ -332,7 +345,15 @@ impl Tree {
     pub fn into_names(self) -> TaskNames
         ensures { result ≡ names_in self.tasks }
     {
-        let Tree { tasks, .. } = self;
+        let Tree {
+            root: _root,
+            tasks,
+            reads: _reads,
+            actor: _actor,
+            snapshot: _,
+            fuel: _,
+            escape: _escape,
+        } = self;
         TaskNames { tasks }
     }
 

@@ -15,7 +15,6 @@ use std::marker::Model;
 use value_core::{Name, Value, Values};
 
 /// What a task of a transaction has done so far. Copies share what they hold.
-#[derive(Drop)]
 pub struct TaskLog {
     name: Name,
     writes: SharedMap<Value>,
@@ -25,6 +24,21 @@ pub struct TaskLog {
     own: u32,
     effects: SharedList<Effect>,
     held: SharedNames,
+}
+
+impl Drop for TaskLog {
+    fn drop(self) {
+        let TaskLog {
+            name: _name,
+            writes: _writes,
+            joined: _joined,
+            among_joined: _among_joined,
+            made: _,
+            own: _,
+            effects: _effects,
+            held: _held,
+        } = self;
+    }
 }
 
 impl Model for TaskLog {

@@ -1,5 +1,5 @@
 -- A turn that runs ahead of what it depends on.
-use Rattle.std.specs.Prelude.{◌≡◌, ℕ, ◌+◌, List, [], ◌∷◌, ◌++◌, Option, None, Some, refl}
+use Rattle.std.specs.Prelude.{◌≡◌, ◌==◌, ◌&&◌, ℕ, Bool, ◌+◌, List, [], ◌∷◌, ◌++◌, Option, None, Some, refl}
 use Rattle.std.specs.Coded.{Coded, code_by, coded×, coded_list, coded_ℕ}
 use Rattle.serial_model.specs.Ahead.{answer_ahead}
 use Rattle.serial_model.specs.declared.answer.Answer.{Answer}
@@ -12,7 +12,7 @@ use Rattle.tentative_turn.specs.declared.ahead.Ahead.{Ahead}
 use Rattle.tentative_turn.specs.declared.ahead.Ahead.TheVariants as ahead
 use Rattle.tentative_turn.specs.declared.held_effect.HeldEffect.{HeldEffect}
 use Rattle.tentative_turn.specs.declared.held_effect.HeldEffect.TheVariants as held
-use Rattle.value_core.specs.Named.{Name, made_by}
+use Rattle.value_core.specs.Named.{Name, made_by, same_name}
 
 -- its name, its actor, how many things it has made, and the effects that it holds, in the order in which it did them
 pub record Turn : Type 0 where
@@ -20,6 +20,10 @@ pub record Turn : Type 0 where
   pub actor : Name
   pub made : ℕ
   pub effects : List HeldEffect
+
+-- the turn has that name, is one of that actor, and has made so many things
+abbrev pub is_turn : Turn → Name → Name → ℕ → Bool
+is_turn turn name actor made = same_name turn.name name && (same_name turn.actor actor && (turn.made == made))
 
 -- it is stored as its parts
 abbrev pub turn_code : Coded Turn

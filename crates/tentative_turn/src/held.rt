@@ -1,7 +1,7 @@
 ghost use Rattle.std.specs.Prelude.{◌≡◌, ◌↔◌, ◌+◌, [], ◌∷◌, ◌++◌, IfOk, OnErr, OnOk, drop};
 ghost use Rattle.std.specs.List.{slice_get};
 ghost use Rattle.std.specs.Option.{option_copied};
-ghost use Rattle.tentative_turn.specs.Turn.{answered_ahead, things_made, IsBegun, IsDosync, IsLookUp, IsMustWait, IsTake, IsTakeOf, RunsAhead};
+ghost use Rattle.tentative_turn.specs.Turn.{answered_ahead, is_turn, things_made, IsBegun, IsDosync, IsLookUp, IsMustWait, IsTake, IsTakeOf, RunsAhead};
 ghost use Rattle.tentative_turn.specs.declared.held_effect.HeldEffect.TheVariants as held;
 
 use crate::ahead::Ahead;
@@ -49,6 +49,13 @@ impl Held {
             made: first_made,
             effects,
         })
+    }
+
+    /// Whether the turn has that name, is one of that actor, and has made so many things.
+    pub fn is_of(&self, turn: &Name, actor: &Name, made: u32) -> bool
+        ensures { result ≡ is_turn self.now turn.now actor.now made }
+    {
+        self.turn == *turn && self.actor == *actor && self.made == made
     }
 
     /// Answers the request ahead and holds its effect last, or hands it back where it must wait: a deref, a join and a

@@ -2,6 +2,8 @@
 #![tactic(auto)]
 
 #[cfg(test)]
+mod aheads;
+#[cfg(test)]
 mod links;
 #[cfg(test)]
 mod turns;

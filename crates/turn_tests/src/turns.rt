@@ -8,7 +8,7 @@ use std::test::Fail;
 use tentative_turn::{Ahead, Held, HeldEffect};
 use value_core::{Name, Text, Value, Values};
 
-fn name(alloc: Global, text: &str) -> Result<Name, AllocError> {
+pub(crate) fn name(alloc: Global, text: &str) -> Result<Name, AllocError> {
     Name::read(alloc, text.as_bytes()).map_err(|_| AllocError)
 }
 
@@ -19,7 +19,7 @@ fn begun(alloc: Global, made: u32) -> Result<Held, AllocError> {
 }
 
 /// The kinds of request that a turn may run ahead over, by a letter.
-fn request(alloc: Global, kind: char) -> Result<Request, AllocError>
+pub(crate) fn request(alloc: Global, kind: char) -> Result<Request, AllocError>
     ensures { IfOk result (λ asked. ¬ IsDosync asked) }
 {
     match kind {
@@ -36,7 +36,7 @@ fn request(alloc: Global, kind: char) -> Result<Request, AllocError>
     }
 }
 
-fn letter(request: &Request) -> char {
+pub(crate) fn letter(request: &Request) -> char {
     match request {
         Request::Print(_) => 'p',
         Request::NewRef(_) => 'n',
@@ -63,13 +63,19 @@ fn words(alloc: Global, answer: &Answer) -> Result<String, AllocError> {
     }
 }
 
+/// What becomes of a request, in words.
+pub(crate) fn told(alloc: Global, ahead: &Ahead) -> Result<String, AllocError> {
+    match ahead {
+        Ahead::Answered(answer) => words(alloc, answer),
+        Ahead::MustWait(back) => format!(in alloc; "wait {}", letter(back)),
+    }
+}
+
 /// What becomes of the request, in words.
 fn tried(alloc: Global, held: &mut Held, kind: char) -> Result<String, AllocError> {
     let asked = request(alloc, kind)?;
-    match held.run_ahead(alloc, asked)? {
-        Ahead::Answered(answer) => words(alloc, &answer),
-        Ahead::MustWait(back) => format!(in alloc; "wait {}", letter(&back)),
-    }
+    let ahead = held.run_ahead(alloc, asked)?;
+    told(alloc, &ahead)
 }
 
 #[test]

@@ -18,13 +18,24 @@ use value_core::{Code, Name, Value};
 
 /// What a task of a transaction has done so far on a snapshot of the refs, and which refs it has read there. Copies share what
 /// they hold.
-#[derive(Drop)]
 pub struct TaskLog {
     log: OwnLog,
     base: View,
     depth: u32,
     actor: Option<Name>,
     reads: SharedNames,
+}
+
+impl Drop for TaskLog {
+    fn drop(self) {
+        let TaskLog {
+            log: _log,
+            base: _base,
+            depth: _,
+            actor: _actor,
+            reads: _reads,
+        } = self;
+    }
 }
 
 impl Model for TaskLog {

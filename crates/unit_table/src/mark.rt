@@ -19,13 +19,24 @@ pub enum WaitOn {
 }
 
 /// What can be done with a piece. An actor that has a turn, or has no mail, is resting.
-#[derive(Drop)]
 pub enum Mark {
     Ready(Work),
     Waiting(WaitOn),
     Resting,
     Finished(Value),
     Dropped,
+}
+
+impl Drop for Mark {
+    fn drop(self) {
+        match self {
+            Mark::Ready(_) => {}
+            Mark::Waiting(_waiton) => {}
+            Mark::Resting => {}
+            Mark::Finished(_value) => {}
+            Mark::Dropped => {}
+        }
+    }
 }
 
 impl Mark {

@@ -25,7 +25,6 @@ pub struct Becoming {
 
 /// A unit: what it is, where its evaluation stands, how many things it has made, what its actor becomes at its end, where that
 /// is said, and its mark.
-#[derive(Drop)]
 pub struct Unit {
     pub name: Name,
     pub kind: UnitKind,
@@ -33,6 +32,19 @@ pub struct Unit {
     pub made: u32,
     pub becomes: Option<Becoming>,
     pub mark: Mark,
+}
+
+impl Drop for Unit {
+    fn drop(self) {
+        let Unit {
+            name: _name,
+            kind: _kind,
+            machine: _machine,
+            made: _,
+            becomes: _becomes,
+            mark: _mark,
+        } = self;
+    }
 }
 
 impl Unit {

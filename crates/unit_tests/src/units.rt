@@ -12,7 +12,7 @@ pub(crate) fn name(alloc: Global, text: &str) -> Result<Name, AllocError> {
 
 // Puts the mark where something stands, and says whether it did.
 fn mark(units: &mut Units, name: &Name, mark: Mark) -> bool {
-    if units.piece(name).is_none() || matches!(mark, Mark::Waiting(_)) {
+    if units.piece(name).is_none() || matches!(&mark, Mark::Waiting(_)) {
         return false;
     }
     units.mark(name, mark);

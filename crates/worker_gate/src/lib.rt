@@ -5,6 +5,7 @@ mod beside;
 mod between;
 mod gate;
 mod holds;
+mod pausing;
 mod rounds;
 mod spreading;
 mod stop;

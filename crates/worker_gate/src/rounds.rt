@@ -11,7 +11,6 @@ use interleave_core::{ClaimNo, StepNo, World};
 use shared_world::Given;
 use std::alloc::Global;
 use std::sync::Wait;
-use std::thread::yield_now;
 use world_claim::Claim;
 use world_lock::{Seat, WorldLock};
 
@@ -20,8 +19,10 @@ use world_lock::{Seat, WorldLock};
 pub(crate) enum Went {
     /// An entry was settled.
     Settled,
-    /// A step was done that the history does not see, or there was nothing to claim.
+    /// A step was done that the history does not see.
     On,
+    /// There was nothing to claim.
+    Idle,
     /// The run is over.
     Over,
     /// Memory is wanting.
@@ -35,8 +36,7 @@ pub(crate) struct Round {
     pub(crate) went: Went,
 }
 
-/// A round: a claim in one hold, its evaluation outside of the lock, and its return in another hold. Where nothing is ready
-/// the thread yields.
+/// A round: a claim in one hold, its evaluation outside of the lock, and its return in another hold.
 pub(crate) fn do_round<R: Wait, G: Gate>(
     rt: &R,
     alloc: Global,
@@ -57,13 +57,10 @@ pub(crate) fn do_round<R: Wait, G: Gate>(
     let Asked { seat, found } = claim_in(rt, alloc, lock, seat);
     match found {
         Ok(claim) => take_turn(rt, alloc, lock, seat, program, claim, worker, turn, gate),
-        Err(ClaimNo::Idle) => {
-            yield_now();
-            Round {
-                seat,
-                went: Went::On,
-            }
-        }
+        Err(ClaimNo::Idle) => Round {
+            seat,
+            went: Went::Idle,
+        },
         Err(ClaimNo::Over) => Round {
             seat,
             went: Went::Over,

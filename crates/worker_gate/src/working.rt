@@ -6,6 +6,7 @@ ghost use Rattle.world_lock.specs.Known.{IsSeatOf};
 
 use crate::between::Between;
 use crate::gate::Gate;
+use crate::pausing::pause;
 use crate::rounds::{Round, Went, do_round};
 use crate::stop::{Stop, Worked};
 use core_syntax::Program;
@@ -15,7 +16,8 @@ use std::sync::Wait;
 use world_lock::{Seat, WorldLock};
 
 /// Claims, evaluates and gives back, until the run is over or memory is wanting. The program is the one of the lock's setup.
-/// After each result that settled an entry, `between` does its part. `Over` comes only where the history that the seat has
+/// After each result that settled an entry, `between` does its part. Where nothing can be claimed the thread yields its processor, the
+/// more often the longer that lasts. `Over` comes only where the history that the seat has
 /// seen replays to a state that is over. The seat that comes back has the shares of the given one, and has seen at least what
 /// that had.
 pub fn work<R: Wait, G: Gate, B: Between>(
@@ -42,11 +44,13 @@ pub fn work<R: Wait, G: Gate, B: Between>(
 {
     let mut mine = seat;
     let mut turn = 0u64;
+    let mut paused = 0u32;
     for _ in rt.forever() {
         let Round { seat, went } = do_round(rt, alloc, lock, mine, program, worker, turn, gate);
+        paused = pause(went, paused);
         match went {
             Went::Settled => mine = between.after(rt, alloc, lock, seat),
-            Went::On => mine = seat,
+            Went::On | Went::Idle => mine = seat,
             Went::Over => {
                 return Worked {
                     seat,

@@ -9,12 +9,16 @@ use crate::lock::WorldLock;
 use crate::moves::{BothShares, Give, Look, OneShare, Take};
 use crate::view::Place;
 use std::sync::Wait;
+use std::thread::yield_now;
 
 /// The word of a lock whose value is in its slot.
 pub(crate) const FREE: u64 = 0;
 
 /// The word of a lock whose value is out with a seat.
 pub(crate) const HELD: u64 = 1;
+
+// So many times a thread yields its processor before it sleeps. To sleep and to be woken costs more than most holds last.
+const TRIES: u32 = 32;
 
 impl<T: Grows> WorldLock<T> {
     /// Cuts one share off the seat. The new seat has it, and has seen the same.
@@ -49,7 +53,8 @@ impl<T: Grows> WorldLock<T> {
         self.table.shared.load::<Look>(place, 0);
     }
 
-    /// Takes the word with the slot, however often it has to try. In between it sleeps while the word says held.
+    /// Takes the word with the slot, however often it has to try. In between it yields, and after some tries sleeps while the word
+    /// says held.
     pub(crate) fn take_word<R: Wait>(&self, rt: &R, place: &mut Place<T>)
         requires of { place.old.table_id ≡ self.now.id }
         requires held { place.old.me.0.held ≡ None }
@@ -58,11 +63,18 @@ impl<T: Grows> WorldLock<T> {
         ensures took { (y : T) × Took T.setup T.history place.old.me place.new.me y }
     {
         let shared = &self.table.shared;
+        let mut tries = 0u32;
         for _ in rt.forever() {
             if shared.compare_exchange::<Take>(place, 0, FREE, HELD) == FREE {
                 return;
             }
-            shared.park(rt, 0, HELD as u32);
+            if tries < TRIES {
+                yield_now();
+                tries += 1;
+            } else {
+                shared.park(rt, 0, HELD as u32);
+                tries = 0;
+            }
         }
         unreachable!()
     }

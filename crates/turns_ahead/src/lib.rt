@@ -1,0 +1,6 @@
+//! A turn that runs ahead of the history, as the world keeps it: the effects that it holds, and where the history left it.
+#![tactic(auto)]
+
+mod turn_ahead;
+
+pub use turn_ahead::TurnAhead;

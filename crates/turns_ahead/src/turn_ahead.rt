@@ -1,0 +1,187 @@
+ghost use Rattle.std.specs.Prelude.{◌≡◌, IfOk, None, OnErr, Option, drop};
+ghost use Rattle.std.specs.Option.{option_copied, IsSome};
+ghost use Rattle.shared_world.specs.rows.Leading.{becomes_after};
+ghost use Rattle.tentative_turn.specs.Turn.{is_turn, IsDosync, IsTake};
+ghost use Rattle.turns_ahead.specs.Leading.{ahead_of, becomes_or, begins, hands_back, HasBegun, HasGone, HasSettled, IsLeftBy, IsLeftNext};
+ghost use Rattle.unit_table.specs.declared.unit.Becoming.{Becoming as Turning};
+
+use serial_model::{Entry, Request};
+use std::alloc::{AllocError, Global};
+use std::marker::Model;
+use tentative_turn::{Ahead, Held, HeldEffect, count_made};
+use unit_table::Becoming;
+use value_core::Name;
+
+/// A turn that runs ahead of the history: it is answered without waiting, and what it does is held until it settles. Beside
+/// that it keeps where the history left it.
+#[derive(Drop)]
+pub struct TurnAhead {
+    held: Held,
+    // How many of its answers the history knows.
+    answers: u64,
+    // How many things it had made there.
+    made: u32,
+    becomes: Option<Becoming>,
+    // Whether it waits until it is definite and holds nothing.
+    waits: bool,
+}
+
+impl Model for TurnAhead {
+    ghost use Rattle.turns_ahead.specs.Leading.{leading_code, IsLine, Leading};
+
+    ghost Value = { Leading };
+
+    ghost coded = { leading_code };
+
+    ghost view = { λ t. record { turn = t.held; answers = t.answers; made = t.made; becomes = t.becomes; waits = t.waits } };
+
+    ghost invariant = { λ t. IsLine t.held.effects };
+}
+
+impl TurnAhead {
+    /// The turn of that name, which is begun by the entry: it holds that alone, and the history knows nothing of it.
+    pub fn begin(alloc: Global, take: Entry, turn: Name) -> Result<Self, AllocError>
+        requires { IsTake take }
+        ensures { IfOk result (HasBegun take turn) }
+    {
+        Ok(TurnAhead {
+            held: Held::new(alloc, take, turn, 0)?,
+            answers: 0,
+            made: 0,
+            becomes: None,
+            waits: false,
+        })
+    }
+
+    /// Whether the turn has that name, is one of that actor, and has made so many things.
+    pub fn is_of(&self, turn: &Name, actor: &Name, made: u32) -> bool
+        ensures { result ≡ is_turn self.now.turn turn.now actor.now made }
+    {
+        self.held.is_of(turn, actor, made)
+    }
+
+    /// The actor of the turn, where its begin is held.
+    pub fn takes(&self) -> Option<&Name>
+        ensures { option_copied result ≡ begins self.now.turn.effects }
+    {
+        match self.held.next_held() {
+            Some(HeldEffect::Take(Entry::Take(actor, _))) => Some(actor),
+            _ => None,
+        }
+    }
+
+    /// Whether the turn waits until it is definite and holds nothing.
+    pub fn waits(&self) -> bool
+        ensures { result ≡ self.now.waits }
+    {
+        self.waits
+    }
+
+    /// Answers the request ahead and holds it as the last; or hands it back where its answer has to be looked up, and the turn
+    /// waits. For want of memory the turn stays, and the request is dropped.
+    pub fn go(&mut self, alloc: Global, request: Request) -> Result<Ahead, AllocError>
+        requires { ¬ IsDosync request }
+        ensures went { IfOk result (HasGone self.old request self.new) }
+        ensures same { OnErr result (self.new ≡ self.old) }
+    {
+        let ahead = self.held.run_ahead(alloc, request)?;
+        self.waits = must_wait(&ahead);
+        Ok(ahead)
+    }
+
+    /// The begin of the turn is settled, where it is held. It takes no memory.
+    pub fn settle_begin(&mut self)
+        requires { IsSome (begins self.old.turn.effects) }
+        ensures turn { self.new ≡ record self.old { turn = record self.old.turn { effects = drop 1 self.old.turn.effects } } }
+        ensures left { ahead_of self.new ≡ record (ahead_of self.old) { takes = None } }
+    {
+        effect_goes(self.held.flush());
+    }
+
+    /// The first request that is held is settled: the history has given its answer, and what it made, and what the actor becomes
+    /// by it. It takes no memory, and fails only where there is too much to count, and where nothing is held or the begin is. Then
+    /// the turn stays.
+    pub fn settle_first(&mut self) -> Result<Request, AllocError>
+        ensures settled { IfOk result (λ request. HasSettled self.old request self.new) }
+        ensures same { OnErr result (self.new ≡ self.old) }
+    {
+        let left = self.left_next()?;
+        match self.held.flush() {
+            Some(HeldEffect::Asked(request, _)) => {
+                self.leave_at(left);
+                Ok(request)
+            }
+            _ => unreachable!(),
+        }
+    }
+
+    /// Where the history leaves the turn once the first request is settled.
+    fn left_next(&self) -> Result<Left, AllocError>
+        ensures { IfOk result (IsLeftNext self.now) }
+    {
+        match self.held.next_held() {
+            Some(HeldEffect::Asked(request, _)) => left_by(self.answers, self.made, request),
+            _ => Err(AllocError),
+        }
+    }
+
+    /// The history leaves the turn there.
+    fn leave_at(&mut self, left: Left)
+        ensures { self.new ≡ record self.old { answers = left.answers; made = left.made; becomes = becomes_or left.becomes self.old.becomes } }
+    {
+        self.answers = left.answers;
+        self.made = left.made;
+        if let Some(becomes) = left.becomes {
+            self.becomes = Some(becomes);
+        }
+    }
+}
+
+/// How many answers the history has given, and how many things it has made; and what the actor becomes by the request, where
+/// that says so.
+#[derive(Drop)]
+pub(crate) struct Left {
+    pub(crate) answers: u64,
+    pub(crate) made: u32,
+    pub(crate) becomes: Option<Becoming>,
+}
+
+/// Where the history leaves a turn once the request is settled, of whose answers it knew so many, and which had made so many things.
+fn left_by(answers: u64, made: u32, request: &Request) -> Result<Left, AllocError>
+    ensures { IfOk result (IsLeftBy answers made request.now) }
+{
+    let answers = answers.checked_add(1).ok_or(AllocError)?;
+    let made = made.checked_add(count_made(request)).ok_or(AllocError)?;
+    let becomes = next_becomes(request)?;
+    Ok(Left {
+        answers,
+        made,
+        becomes,
+    })
+}
+
+/// What the actor becomes by the request, where that says so.
+fn next_becomes(request: &Request) -> Result<Option<Becoming>, AllocError>
+    ensures { IfOk result (λ next. (before : Option Turning) → becomes_or next before ≡ becomes_after request.now before) }
+{
+    match request {
+        Request::Become(behaviour, state) => Ok(Some(Becoming {
+            behaviour: *behaviour,
+            state: state.copy()?,
+        })),
+        _ => Ok(None),
+    }
+}
+
+/// Whether the request was handed back.
+fn must_wait(ahead: &Ahead) -> bool
+    ensures { result ≡ hands_back ahead.now }
+{
+    match ahead {
+        Ahead::Answered(_) => false,
+        Ahead::MustWait(_) => true,
+    }
+}
+
+/// Drops what was held.
+fn effect_goes(_effect: Option<HeldEffect>) {}
