@@ -8,9 +8,9 @@ use Rattle.std.specs.Option.{IsSome, option_and_then}
 use Rattle.std.specs.Ordering.{is_eq, is_lt}
 use Rattle.value_core.specs.Name.{after_cmp}
 use Rattle.value_core.specs.Named.{Name, Named, named, with_named, same_name, Rises}
-use Rattle.value_core.specs.Placed.{Placed, filled, if_filled, HasPlace, IsPrepared}
+use Rattle.value_core.specs.Placed.{Placed, filled, if_filled, HasPlace, IsEmptied, IsPrepared}
 use Rattle.value_core.proofs.Names.{after_cmp-IsAntisymmetric}
-use Rattle.value_core.proofs.NamedLaws.{IsBelow, after_cmp-itself, below-less, named-below, rises-first, rises-rest, rises-with_named, same_name-equal, some-here, still_named}
+use Rattle.value_core.proofs.NamedLaws.{IsBelow, after_cmp-itself, below-less, named-below, named-with_named, rises-first, rises-rest, rises-with_named, same_name-equal, some-here, still_named}
 use Rattle.value_core.proofs.Tests.{both, first_of, second_of}
 
 -- what is below all places is below all that they show
@@ -98,3 +98,35 @@ made_prepared {X} k old new none made = subst (IsPrepared k old) (sym made) (rec
   place = some-here k None old;
   others = λ other there. still_named other k None old there;
 })
+
+-- what a place showed is shown no more, once it is emptied
+pub emptied_shows : {X : Type 0} (k : Name) (old new : Placed X) → Rises old → IsEmptied k (named k old) old new → (q : Name) → named q (filled new) ≡ cond (same_name q k) None (named q (filled old))
+emptied_shows {X} k old new rises is q = on (named k old) refl is
+  where
+    stays : (b : Bool) → same_name q k ≡ b → named k old ≡ None → named q (filled old) ≡ cond b None (named q (filled old))
+    stays true same none = subst (λ n. named n (filled old) ≡ None) (sym (same_name-equal q k same)) (named_filled k old rises ∙ ap (option_and_then (λ (o : Option X). o)) none)
+    stays false apart none = refl
+
+    goes : (b : Bool) → option_and_then (λ (o : Option X). o) (cond b (Some None) (named q old)) ≡ cond b None (named q (filled old))
+    goes true = refl
+    goes false = sym (named_filled q old rises)
+
+    on : (found : Option (Option X)) → named k old ≡ found → IsEmptied k found old new → named q (filled new) ≡ cond (same_name q k) None (named q (filled old))
+    on None none same = ap (λ (p : Placed X). named q (filled p)) same ∙ stays (same_name q k) refl none
+    on (Some place) there put = ap (λ (p : Placed X). named q (filled p)) put ∙ named_filled q (with_named old k None) (rises-with_named k None old rises)
+        ∙ ap (option_and_then (λ (o : Option X). o)) (named-with_named q k None old) ∙ goes (same_name q k)
+
+-- and the places stay, in their order
+pub emptied_rises : {X : Type 0} (k : Name) (old new : Placed X) → Rises old → IsEmptied k (named k old) old new → Rises new
+emptied_rises {X} k old new rises is = on (named k old) is
+  where
+    on : (found : Option (Option X)) → IsEmptied k found old new → Rises new
+    on None same = subst (λ (p : Placed X). Rises p) (sym same) rises
+    on (Some place) put = subst (λ (p : Placed X). Rises p) (sym put) (rises-with_named k None old rises)
+
+pub emptied_places : {X : Type 0} (k : Name) (old new : Placed X) → IsEmptied k (named k old) old new → (q : Name) → HasPlace q old → HasPlace q new
+emptied_places {X} k old new is q has = on (named k old) is
+  where
+    on : (found : Option (Option X)) → IsEmptied k found old new → HasPlace q new
+    on None same = subst (λ (p : Placed X). HasPlace q p) (sym same) has
+    on (Some place) put = subst (λ (p : Placed X). HasPlace q p) (sym put) (still_named q k None old has)

@@ -2,7 +2,7 @@
 use Rattle.std.specs.Prelude.{◌≡◌, [], ◌∷◌, Option, None, Some}
 use Rattle.std.specs.Coded.{Coded, coded×, coded_list, coded_option, coded_ℕ}
 use Rattle.std.specs.Option.{IsSome}
-use Rattle.value_core.specs.Named.{Name, Named, named, Rises}
+use Rattle.value_core.specs.Named.{Name, Named, named, with_named, Rises}
 
 -- places by name, each with its item where it is filled
 abbrev pub Placed : Type 0 → Type 0
@@ -27,6 +27,11 @@ pub record IsPrepared {X : Type 0} (name : Name) (old new : Placed X) : Type 0 w
   pub shows : filled new ≡ filled old
   pub place : HasPlace name new
   pub others : (other : Name) → HasPlace other old → HasPlace other new
+
+-- the place that is found under the name is empty now; where none is, all is as it was
+abbrev pub IsEmptied : {X : Type 0} → Name → Option (Option X) → Placed X → Placed X → Type 0
+IsEmptied name None old new = new ≡ old
+IsEmptied name (Some place) old new = new ≡ with_named old name None
 
 -- they are stored as a list of names and options
 abbrev pub placed_code : {X : Type 0} → Coded X → Coded (Placed X)

@@ -1,13 +1,14 @@
-ghost use Rattle.std.specs.Prelude.{◌≡◌, [], OnErr, OnOk, Some};
-ghost use Rattle.std.specs.Option.{option_copied};
-ghost use Rattle.value_core.specs.Named.{Name as Naming, named, with_named};
-ghost use Rattle.value_core.specs.Placed.{filled, HasPlace, IsPrepared};
+ghost use Rattle.std.specs.Prelude.{◌≡◌, [], None, OnErr, OnOk, Some, cond};
+ghost use Rattle.std.specs.Option.{option_and_then, option_copied};
+ghost use Rattle.value_core.specs.Named.{Name as Naming, named, same_name, with_named};
+ghost use Rattle.value_core.specs.Placed.{filled, HasPlace, IsEmptied, IsPrepared};
 
 use crate::Name;
 use crate::name_map::{find, put};
 use std::alloc::{AllocError, Global};
 use std::collections::BTreeMap;
 use std::marker::Model;
+use std::mem;
 
 /// Items by name, whose places can be made before the items are there. A place that is not filled shows nothing; one that
 /// is made is filled without taking memory.
@@ -68,6 +69,15 @@ impl<X: Drop> Places<X> {
     {
         fill(&mut self.all, name, item);
     }
+
+    /// Takes the item out of its place, where that is filled. It takes no memory, and the places stay.
+    pub fn take(&mut self, name: &Name) -> Option<X>
+        ensures item { result ≡ named name.now (filled self.old) }
+        ensures shows { (other : Naming) → named other (filled self.new) ≡ cond (same_name other name.now) None (named other (filled self.old)) }
+        ensures places { (other : Naming) → HasPlace other self.old → HasPlace other self.new }
+    {
+        empty(&mut self.all, name)
+    }
 }
 
 /// Makes a place under the name, where there is none.
@@ -88,5 +98,16 @@ fn fill<X: Drop>(places: &mut BTreeMap<Name, Option<X>>, name: &Name, item: X)
 {
     if let Some(place) = places.get_mut(name) {
         *place = Some(item);
+    }
+}
+
+/// Takes the item out of its place, where that is filled.
+fn empty<X: Drop>(places: &mut BTreeMap<Name, Option<X>>, name: &Name) -> Option<X>
+    ensures item { result ≡ option_and_then (λ place. place) (named name.now places.old.entries) }
+    ensures emptied { IsEmptied name.now (named name.now places.old.entries) places.old.entries places.new.entries }
+{
+    match places.get_mut(name) {
+        Some(place) => mem::replace(place, None),
+        None => None,
     }
 }
