@@ -1,7 +1,8 @@
-ghost use Rattle.std.specs.Prelude.{◌≡◌, ◌+◌, ◌<◌, ◌≤◌, [], ◌∷◌, ◌++◌, IsOk, OnOk, MatchOption, MatchResult, Some, position, slice_get};
+ghost use Rattle.std.specs.Prelude.{◌≡◌, ◌&&◌, ◌+◌, ◌<◌, ◌≤◌, [], ◌∷◌, ◌++◌, IsOk, OnOk, MatchOption, MatchResult, Some, count_by, length, position, slice_get};
 ghost use Rattle.std.specs.List.{list_any};
 ghost use Rattle.value_core.specs.Named.{same_name};
 ghost use Rattle.actor_mailbox.specs.Messages.{depends_on, from, is_from, settle, settle_first, without, without_first};
+ghost use Rattle.actor_mailbox.specs.Unsettled.{is_unsettled, unsettled_of};
 
 use crate::message::Message;
 use std::alloc::{AllocError, Global};
@@ -124,6 +125,23 @@ impl Mailbox {
     {
         self.messages.retain(|message| !message.depends_on(name));
     }
+
+    /// How many messages of that sender are not settled.
+    pub fn unsettled_of(&self, sender: &Name) -> usize
+        ensures { result ≡ length (unsettled_of sender.now self.now.items) }
+    {
+        count_unsettled(&self.messages, sender)
+    }
+}
+
+/// How many messages of that sender are not settled.
+fn count_unsettled(messages: &VecDeque<Message>, sender: &Name) -> usize
+    ensures { result ≡ count_by (λ m. is_from sender.now m && is_unsettled m) messages.now.items }
+{
+    messages
+        .iter()
+        .filter(|message| message.is_from(sender) && message.is_unsettled())
+        .count()
 }
 
 /// The place of the first message of that sender.

@@ -14,6 +14,7 @@ pub struct Message {
 
 impl Message {
     ghost use Rattle.actor_mailbox.specs.Messages.{depends_on, is_from, settle_one};
+    ghost use Rattle.actor_mailbox.specs.Unsettled.{is_unsettled};
 
     /// Whether that unit sent it.
     pub(crate) fn is_from(&self, sender: &Name) -> bool
@@ -38,6 +39,16 @@ impl Message {
     {
         if self.depends_on(name) {
             self.depends = None;
+        }
+    }
+
+    /// Whether it depends on a name.
+    pub(crate) fn is_unsettled(&self) -> bool
+        ensures { result ≡ is_unsettled self.now }
+    {
+        match &self.depends {
+            Some(_) => true,
+            None => false,
         }
     }
 }

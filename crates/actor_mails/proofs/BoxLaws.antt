@@ -1,5 +1,5 @@
 -- What a box that is put under a name does to the mail, and to the room.
-use Rattle.std.proofs.Common.{◌≡◌, ◌∙◌, ◌⊎◌, inl, inr, ◌≤◌, List, [], ◌∷◌, ◌++◌, Option, Some, None, sym, ap, subst, arith}
+use Rattle.std.proofs.Common.{◌≡◌, ◌∙◌, ◌⊎◌, inl, inr, ◌≤◌, Bool, List, [], ◌∷◌, ◌++◌, Option, Some, None, sym, ap, subst, arith}
 use Rattle.std.specs.Prelude.{MatchOption}
 use Rattle.std.specs.BTreeMap.{BTreeMap, get_by, WritesThrough}
 use Rattle.std.specs.List.Sorted.{IsStrictlySortedBy}
@@ -9,6 +9,8 @@ use Rattle.value_core.specs.Roomy.{Roomy}
 use Rattle.value_core.proofs.NamedLaws.{named-here, named-other, rises-with_named, same_or_not}
 use Rattle.value_core.proofs.NameMaps.{found_named, rises_of, written_is_put}
 use Rattle.actor_mailbox.specs.declared.message.Message.{Message}
+use Rattle.actor_mailbox.specs.Messages.{depends_on, settle_first}
+use Rattle.std.specs.List.{list_any}
 use Rattle.actor_mails.specs.Mails.{held, items_in, mail_at, room_at, room_in, Boxes, IsMailed, KeepsRoom, KeepsRoomBut, SameMailBut}
 use Rattle.actor_mails.proofs.Held.{held_at, held_same}
 
@@ -100,3 +102,13 @@ module _ (to : Name) (before after : Roomy Message) (old new : Boxes) (back : Is
     mail_before ∙ some ∙ ap (λ (rest : List Message). message ∷ rest) (sym (mail_here to after old new back.put back.rises)),
     mail_others to after old new back.put back.rises,
   )
+
+  -- the first message of the box that depends on a name that passes is definite, where there is one
+  pub settled : (test : Name → Bool) → after.items ≡ settle_first test before.items → IsMailed to (settle_first test (mail_at (held old) to)) (held old) (held new)
+  settled test items = record {
+    here = mail_here to after old new back.put back.rises ∙ items ∙ ap (settle_first test) (sym mail_before);
+    others = mail_others to after old new back.put back.rises;
+  }
+
+  pub found_first : (test : Name → Bool) → list_any (depends_on test) before.items ≡ list_any (depends_on test) (mail_at (held old) to)
+  found_first test = ap (list_any (depends_on test)) (sym mail_before)

@@ -1,5 +1,5 @@
 -- What boxes hold, by name, and when it is the same.
-use Rattle.std.proofs.Common.{◌≡◌, ◌∙◌, List, [], ◌∷◌, Option, Some, None, refl, sym, ap}
+use Rattle.std.proofs.Common.{◌≡◌, ◌∙◌, List, [], ◌∷◌, Option, Some, None, refl, sym, ap, subst}
 use Rattle.std.specs.FinMap.Entries.{same_entries}
 use Rattle.std.specs.Option.{option_and_then, option_map}
 use Rattle.value_core.specs.Name.{after_cmp}
@@ -78,3 +78,8 @@ held_made to box old empty none =
     ap (λ (places : Placed (List Message)). filled places)
     (each_as-with_named held_in to box old ∙ ap (λ (messages : Option (List Message)). with_named (each_as held_in old) to messages) (ap if_any empty))
     ∙ prepared_shows to (each_as held_in old) (view_none held_in to old none)
+
+-- what waits is what the box holds that was found
+pub seen : (self inside : Boxes) (actor : Name) (found box : Option (Roomy Message)) → inside ≡ self → Rises inside → found ≡ named actor inside → found ≡ box → mail_at (held self) actor ≡ items_in box
+seen self inside actor found box view rises find is =
+    subst (λ (boxes : Boxes). mail_at (held boxes) actor ≡ items_in box) view (held_at inside actor rises ∙ ap items_in (sym find ∙ is))

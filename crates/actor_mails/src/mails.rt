@@ -1,5 +1,8 @@
 ghost use Rattle.std.specs.Prelude.{◌≡◌, ◌↔◌, ◌+◌, ◌<◌, ◌≤◌, [], ◌∷◌, ◌++◌, length, IsOk, IsTrue, MatchOption, None, OnErr, OnOk, Some, slice_get};
-ghost use Rattle.value_core.specs.Named.{named, Rises};
+ghost use Rattle.std.specs.List.{list_any};
+ghost use Rattle.actor_mailbox.specs.Messages.{depends_on, settle_first};
+ghost use Rattle.actor_mailbox.specs.Unsettled.{unsettled_of};
+ghost use Rattle.value_core.specs.Named.{named, same_name, Rises};
 ghost use Rattle.actor_mails.specs.Mails.{held, mail_at, room_at, IsMailed, KeepsRoom, KeepsRoomBut, NoMail, SameMailBut};
 
 use actor_mailbox::{Mailbox, Message};
@@ -117,6 +120,27 @@ impl Mails {
     {
         self.boxes
     }
+
+    /// Makes the first message that waits for that actor and depends on that name definite, in its place. It is false, with
+    /// nothing changed, exactly where there is none. The mail of the others stays, and no actor has less room. It takes no
+    /// memory.
+    pub fn settle_first(&mut self, to: &Name, on: &Name) -> bool
+        ensures found { result ≡ list_any (depends_on (same_name on.now)) (mail_at (held self.old) to.now) }
+        ensures mail { IsMailed to.now (settle_first (same_name on.now) (mail_at (held self.old) to.now)) (held self.old) (held self.new) }
+        ensures room { KeepsRoom self.old self.new }
+    {
+        settle_in(&mut self.boxes, to, on)
+    }
+
+    /// How many of the messages that wait for that actor are of the sender and not settled.
+    pub fn unsettled_of(&self, actor: &Name, sender: &Name) -> usize
+        ensures { result ≡ length (unsettled_of sender.now (mail_at (held self.now) actor.now)) }
+    {
+        match name_map::find(&self.boxes, actor) {
+            Some(mailbox) => mailbox.unsettled_of(sender),
+            None => 0,
+        }
+    }
 }
 
 fn reserve(
@@ -224,5 +248,17 @@ fn take(boxes: &mut BTreeMap<Name, Mailbox>, actor: &Name) -> Option<Message>
     match boxes.get_mut(actor) {
         Some(mailbox) => mailbox.take(),
         None => None,
+    }
+}
+
+fn settle_in(boxes: &mut BTreeMap<Name, Mailbox>, to: &Name, on: &Name) -> bool
+    ensures found { result ≡ list_any (depends_on (same_name on.now)) (mail_at (held boxes.old.entries) to.now) }
+    ensures mail { IsMailed to.now (settle_first (same_name on.now) (mail_at (held boxes.old.entries) to.now)) (held boxes.old.entries) (held boxes.new.entries) }
+    ensures room { KeepsRoom boxes.old.entries boxes.new.entries }
+    ensures rises { Rises boxes.old.entries → Rises boxes.new.entries }
+{
+    match boxes.get_mut(to) {
+        Some(mailbox) => mailbox.settle_first(on),
+        None => false,
     }
 }

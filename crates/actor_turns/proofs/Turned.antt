@@ -20,49 +20,49 @@ use Rattle.value_core.specs.Named.{Name, made_by, same_name}
 use Rattle.world_steps.proofs.Forking.{claims-again}
 use Rattle.actor_turns.specs.declared.turns.Turning.{Turning}
 use Rattle.world_steps.specs.Kept.{IsSameBut}
-use Rattle.actor_turns.specs.Turning.{HasBegunTurn, IsDue, IsTurning, turn_of}
+use Rattle.actor_turns.specs.Turning.{HasBegunTurn, IsAtFront, IsDue, IsTurning, turn_of}
 
 -- at an end no claim is out
 none-out : (gone : Name → Bool) (old new : Shared) (e : End) → new.end ≡ Some e → ClaimsEnd gone old new
 none-out gone old new e is going ticket = let no : false ≡ true = sym (ap is_going is) ∙ going in cc
 
 -- the limit allows no turn more
-pub spent-turn : (old mid new : Shared) (a : Name) (entry : Entry) (found : Given) → mid ≡ old → (due : IsDue old a) → entry ≡ Take a due.first.sender → (old.made == old.setup.limits.units) ≡ true
+pub spent-turn : (old mid new : Shared) (a : Name) (entry : Entry) (found : Given) → mid ≡ old → (due : IsDue old a) → entry ≡ Take a due.front.first.sender → (old.made == old.setup.limits.units) ≡ true
     → EndsBy mid entry ending.UnitsSpent found new → GaveActor old a found new
 spent-turn old mid new a entry found mid_is due entry_is full r = record {
-  actor = due.actor;
-  there = due.there;
-  first = due.first;
-  rest = due.rest;
-  mail = due.mail;
-  can = due.can;
-  gives = subst (λ c. TakesIfAllowed old a due.actor.state due.first due.rest due.can.behaviour c found new) (sym full) ends;
+  actor = due.front.actor;
+  there = due.front.there;
+  first = due.front.first;
+  rest = due.front.rest;
+  mail = due.front.mail;
+  can = record { idle = due.front.can.idle; free = due.front.can.free; definite = due.definite; behaviour = due.front.can.behaviour; behaves = due.front.can.behaves };
+  gives = subst (λ c. TakesIfAllowed old a due.front.actor.state due.front.first due.front.rest due.front.can.behaviour c found new) (sym full) ends;
   claims = none-out (λ q. same_name q a) old new ending.UnitsSpent (ap (λ (s : Shared). s.end) ends.others);
 }
   where
-    ends : EndsBy old (Take a due.first.sender) ending.UnitsSpent found new
+    ends : EndsBy old (Take a due.front.first.sender) ending.UnitsSpent found new
     ends = subst (λ e. EndsBy old e ending.UnitsSpent found new) entry_is (subst (λ (s : Shared). EndsBy s entry ending.UnitsSpent found new) mid_is r)
 
 -- the turn begins
-pub begun-turn : (old mid roomy new : Shared) (a : Name) (entry : Entry) (t : Turning) (found : Given) → mid ≡ old → IsSameBut mid roomy → ((due : IsDue old a) → entry ≡ Take a due.first.sender)
-    → ((due : IsDue mid a) → IsTurning mid a due.actor.state due.first due.can.behaviour t) → IsDue old a → piece_at roomy.board t.name ≡ None → (old.made == old.setup.limits.units) ≡ false
+pub begun-turn : (old mid roomy new : Shared) (a : Name) (entry : Entry) (t : Turning) (found : Given) → mid ≡ old → IsSameBut mid roomy → ((due : IsDue old a) → entry ≡ Take a due.front.first.sender)
+    → ((front : IsAtFront mid a) → IsTurning mid a front.actor.state front.first front.can.behaviour t) → IsDue old a → piece_at roomy.board t.name ≡ None → (old.made == old.setup.limits.units) ≡ false
     → HasBegunTurn roomy a entry t new found → GaveActor old a found new
 begun-turn old mid roomy new a entry t found mid_is same entries turns due none room r = record {
-  actor = due.actor;
-  there = due.there;
-  first = due.first;
-  rest = due.rest;
-  mail = due.mail;
-  can = due.can;
-  gives = subst (λ c. TakesIfAllowed old a due.actor.state due.first due.rest due.can.behaviour c found new) (sym room) takes;
+  actor = due.front.actor;
+  there = due.front.there;
+  first = due.front.first;
+  rest = due.front.rest;
+  mail = due.front.mail;
+  can = record { idle = due.front.can.idle; free = due.front.can.free; definite = due.definite; behaviour = due.front.can.behaviour; behaves = due.front.can.behaves };
+  gives = subst (λ c. TakesIfAllowed old a due.front.actor.state due.front.first due.front.rest due.front.can.behaviour c found new) (sym room) takes;
   claims = λ going ticket. claims-again (λ q. same_name q a) old roomy new same_old ends going ticket;
 }
   where
     same_old : IsSameBut old roomy
     same_old = subst (λ (s : Shared). IsSameBut s roomy) mid_is same
 
-    turning : IsTurning old a due.actor.state due.first due.can.behaviour t
-    turning = (subst (λ (s : Shared). (d : IsDue s a) → IsTurning s a d.actor.state d.first d.can.behaviour t) mid_is turns) due
+    turning : IsTurning old a due.front.actor.state due.front.first due.front.can.behaviour t
+    turning = (subst (λ (s : Shared). (f : IsAtFront s a) → IsTurning s a f.actor.state f.first f.can.behaviour t) mid_is turns) due.front
 
     ends : ClaimsEnd (λ q. same_name q a) roomy new
     ends going ticket = on roomy.end (sym (ap (λ (s : Shared). is_going s.end) r.others) ∙ going)
@@ -79,19 +79,19 @@ begun-turn old mid roomy new a entry t found mid_is same entries turns due none 
     mail_same : (q : Name) → mail_at roomy.mails q ≡ mail_at old.mails q
     mail_same q = ap (λ (s : Shared). mail_at s.mails q) same_old.rest
 
-    mailed : IsMailed a due.rest roomy.mails new.mails
-    mailed = r.mailed due.first due.rest (mail_same a ∙ due.mail)
+    mailed : IsMailed a due.front.rest roomy.mails new.mails
+    mailed = r.mailed due.front.first due.front.rest (mail_same a ∙ due.front.mail)
 
-    entry_is : entry ≡ Take a due.first.sender
+    entry_is : entry ≡ Take a due.front.first.sender
     entry_is = entries due
 
-    takes : Takes old a due.actor.state due.first due.rest due.can.behaviour found new
+    takes : Takes old a due.front.actor.state due.front.first due.front.rest due.front.can.behaviour found new
     takes = record {
       found_is = r.found_is ∙ ap given.Settled entry_is;
       none = sym (same_old.pieces _) ∙ subst (λ n. piece_at roomy.board n ≡ None) turning.name_is none;
       turn = turn_of t.name t.actor t.machine;
       begins = record {
-        state = λ i. record (new_unit (Some a) due.can.behaviour.body (due.actor.state.state ++ due.first.args)) { actor = Some (turning.actor_is i); body = turning.body i; values = turning.values i; answers = turning.answers i };
+        state = λ i. record (new_unit (Some a) due.front.can.behaviour.body (due.front.actor.state.state ++ due.front.first.args)) { actor = Some (turning.actor_is i); body = turning.body i; values = turning.values i; answers = turning.answers i };
         machine = turning.machine;
         mark = refl;
       };
@@ -101,5 +101,5 @@ begun-turn old mid roomy new a entry t found mid_is same entries turns due none 
       mailed = record { here = mailed.here; others = λ q ne. mailed.others q ne ∙ mail_same q };
       others = r.others ∙ ap (λ (s : Shared). record s { history = s.history ++ entry ∷ []; board = new.board; mails = new.mails; made = t.units }) same_old.rest
           ∙ ap (λ e. record old { history = old.history ++ e ∷ []; board = new.board; mails = new.mails; made = t.units }) entry_is
-          ∙ ap (λ n. record old { history = old.history ++ Take a due.first.sender ∷ []; board = new.board; mails = new.mails; made = n }) turning.units;
+          ∙ ap (λ n. record old { history = old.history ++ Take a due.front.first.sender ∷ []; board = new.board; mails = new.mails; made = n }) turning.units;
     }

@@ -4,7 +4,6 @@ ghost use Rattle.std.specs.List.{slice_get};
 ghost use Rattle.std.specs.Option.{IsSome};
 ghost use Rattle.core_syntax.specs.declared.behaviour.Behaviour.{Behaviour as Behaving};
 ghost use Rattle.serial_model.specs.declared.entry.Entry.TheVariants.{Take};
-ghost use Rattle.shared_world.specs.rows.Turns.{CanTake};
 ghost use Rattle.shared_world.specs.Stands.{Stands};
 ghost use Rattle.unit_table.specs.Board.{actor_at, piece_at, HasPlace, IsPutAt, IsUnlent, SameClaims};
 ghost use Rattle.unit_table.specs.declared.mark.Mark.TheVariants as mark;
@@ -12,7 +11,7 @@ ghost use Rattle.unit_table.specs.declared.piece.Piece.TheVariants as pieces;
 ghost use Rattle.value_core.specs.Named.{Name as Called};
 ghost use Rattle.world_model.specs.rows.Turns.{busy_with};
 ghost use Rattle.world_steps.specs.Kept.{shared_of, IsSameBut};
-ghost use Rattle.actor_turns.specs.Turning.{turn_of, HasBegunTurn, IsDue, IsTurning, TurnComes};
+ghost use Rattle.actor_turns.specs.Turning.{due_by, turn_of, CanBegin, HasBegunTurn, IsAtFront, IsDue, IsDueSo, IsTurning, TurnComes};
 
 use actor_mailbox::Message;
 use eval_step::Machine;
@@ -34,13 +33,30 @@ pub(crate) struct Turning {
     pub(crate) units: u32,
 }
 
-/// An idle actor takes the first message of its mail, and its turn on that can go on, where the limit allows one unit more.
-/// What no run can meet, as an actor that has a turn, is taken for want of memory.
+/// Whether the message is settled on which a turn begins.
+#[derive(Drop)]
+pub(crate) enum Due {
+    Settled,
+    Ahead,
+}
+
+/// An idle actor takes the first message of its mail, which is settled, and its turn on that can go on, where the limit allows one
+/// unit more. What no run can meet, as an actor that has a turn, is taken for want of memory. Then nothing changes but room.
 pub fn give_actor(kept: &mut Kept, alloc: Global, name: &Name) -> Result<Given, AllocError>
     requires stands { Stands (shared_of kept.old) }
     ensures { TurnComes (shared_of kept.old) name.now (shared_of kept.new) result }
 {
-    check_due(kept, name)?;
+    match due_of(kept, name)? {
+        Due::Settled => take_settled(kept, alloc, name),
+        Due::Ahead => Err(AllocError),
+    }
+}
+
+/// The actor takes the first message of its mail, which is settled, where the limit allows one unit more.
+fn take_settled(kept: &mut Kept, alloc: Global, name: &Name) -> Result<Given, AllocError>
+    requires due { IsDue (shared_of kept.old) name.now }
+    ensures { TurnComes (shared_of kept.old) name.now (shared_of kept.new) result }
+{
     let marks = take_marks(kept, alloc, name)?;
     kept.make_room()?;
     if kept.made == kept.limits.units() {
@@ -50,32 +66,33 @@ pub fn give_actor(kept: &mut Kept, alloc: Global, name: &Name) -> Result<Given, 
     Ok(begin_turn(kept, alloc, name, marks, turning))
 }
 
-/// The actor is idle, and has a settled message at its front.
-fn check_due(kept: &Kept, name: &Name) -> Result<(), AllocError>
-    ensures { OnOk result (IsDue (shared_of kept.now) name.now) }
+/// How the actor begins its turn, which is idle and has mail.
+pub(crate) fn due_of(kept: &Kept, name: &Name) -> Result<Due, AllocError>
+    ensures { IfOk result (IsDueSo (shared_of kept.now) name.now) }
 {
     match kept.units.piece(name) {
-        Some(Piece::Actor(actor)) => check_front(kept, name, actor),
+        Some(Piece::Actor(actor)) => due_at(kept, name, actor),
         _ => Err(AllocError),
     }
 }
 
-/// The actor of that name is idle, and has a settled message at its front.
-fn check_front(kept: &Kept, name: &Name, actor: &Actor) -> Result<(), AllocError>
+/// How the actor of that name begins its turn.
+fn due_at(kept: &Kept, name: &Name, actor: &Actor) -> Result<Due, AllocError>
     requires { piece_at kept.now.units name.now ≡ Some (pieces.Actor actor.now) }
-    ensures { OnOk result (IsDue (shared_of kept.now) name.now) }
+    ensures { IfOk result (IsDueSo (shared_of kept.now) name.now) }
 {
+    check_begin(kept, name, &actor.state)?;
     match kept.mails.front(name) {
-        Some(message) => check_take(kept, &actor.state, message),
+        Some(message) => Ok(due_on(message)),
         None => Err(AllocError),
     }
 }
 
-/// The actor can take that message.
-fn check_take(kept: &Kept, actor: &ActorState, message: &Message) -> Result<(), AllocError>
-    ensures { OnOk result ((name : Name) → CanTake (shared_of kept.now) name actor.now message.now) }
+/// The actor of that name can begin a turn.
+fn check_begin(kept: &Kept, name: &Name, actor: &ActorState) -> Result<(), AllocError>
+    ensures { OnOk result (CanBegin (shared_of kept.now) name.now actor.now) }
 {
-    if actor.busy || message.depends.is_some() {
+    if actor.busy || kept.taken.get(name).is_some() {
         return Err(AllocError);
     }
     if actor.behaviour < kept.program.behaviours() {
@@ -85,9 +102,19 @@ fn check_take(kept: &Kept, actor: &ActorState, message: &Message) -> Result<(), 
     }
 }
 
+/// How a turn on the message begins.
+fn due_on(message: &Message) -> Due
+    ensures { result ≡ due_by message.now.depends }
+{
+    match &message.depends {
+        None => Due::Settled,
+        Some(_) => Due::Ahead,
+    }
+}
+
 /// The entry of the actor's turn on the first message of its mail, twice.
 fn take_marks(kept: &Kept, alloc: Global, name: &Name) -> Result<Marks, AllocError>
-    ensures entry { IfOk result (λ marks. (due : IsDue (shared_of kept.now) name.now) → marks.entry ≡ Take name.now due.first.sender) }
+    ensures entry { IfOk result (λ marks. (due : IsDue (shared_of kept.now) name.now) → marks.entry ≡ Take name.now due.front.first.sender) }
     ensures told { IfOk result (λ marks. marks.told ≡ marks.entry) }
 {
     match kept.mails.front(name) {
@@ -105,7 +132,7 @@ fn prepare_turn(kept: &mut Kept, alloc: Global, name: &Name) -> Result<Turning, 
     requires due { IsDue (shared_of kept.old) name.now }
     ensures same { IsSameBut (shared_of kept.old) (shared_of kept.new) }
     ensures others { kept.new ≡ record kept.old { units = kept.new.units } }
-    ensures turning { IfOk result (λ turning. (due : IsDue (shared_of kept.old) name.now) → IsTurning (shared_of kept.old) name.now due.actor.state due.first due.can.behaviour turning) }
+    ensures turning { IfOk result (λ turning. (front : IsAtFront (shared_of kept.old) name.now) → IsTurning (shared_of kept.old) name.now front.actor.state front.first front.can.behaviour turning) }
     ensures none { IfOk result (λ turning. piece_at kept.new.units turning.name ≡ None) }
     ensures place { IfOk result (λ turning. HasPlace kept.new.units turning.name) }
 {
@@ -115,9 +142,9 @@ fn prepare_turn(kept: &mut Kept, alloc: Global, name: &Name) -> Result<Turning, 
 }
 
 /// The actor's next turn.
-fn next_turn(kept: &Kept, alloc: Global, name: &Name) -> Result<Turning, AllocError>
-    requires due { IsDue (shared_of kept.now) name.now }
-    ensures { IfOk result (λ turning. (due : IsDue (shared_of kept.now) name.now) → IsTurning (shared_of kept.now) name.now due.actor.state due.first due.can.behaviour turning) }
+pub(crate) fn next_turn(kept: &Kept, alloc: Global, name: &Name) -> Result<Turning, AllocError>
+    requires front { IsAtFront (shared_of kept.now) name.now }
+    ensures { IfOk result (λ turning. (front : IsAtFront (shared_of kept.now) name.now) → IsTurning (shared_of kept.now) name.now front.actor.state front.first front.can.behaviour turning) }
 {
     match (kept.units.actor(name), kept.mails.front(name)) {
         (Some(actor), Some(message)) => turn_on(kept, alloc, name, actor, message),
@@ -212,7 +239,7 @@ fn begin_work(units: &mut Units, name: &Name, busy: ActorState)
 }
 
 /// Adds the turn of an actor under the name, for which there is a place. It takes no memory.
-fn add_turn(units: &mut Units, alloc: Global, name: Name, actor: Name, machine: Machine)
+pub(crate) fn add_turn(units: &mut Units, alloc: Global, name: Name, actor: Name, machine: Machine)
     requires none { piece_at units.old name ≡ None }
     requires place { HasPlace units.old name }
     ensures added { IsPutAt name (Some (pieces.Unit (turn_of name actor machine))) units.old units.new }
@@ -226,3 +253,6 @@ fn add_turn(units: &mut Units, alloc: Global, name: Name, actor: Name, machine: 
 
 /// Drops a message.
 fn message_goes(_message: Option<Message>) {}
+
+/// Drops a turn that does not begin.
+pub(crate) fn turning_goes(_turning: Turning) {}

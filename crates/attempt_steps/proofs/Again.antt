@@ -8,7 +8,7 @@ use Rattle.shared_world.specs.declared.given.Given.{Given}
 use Rattle.shared_world.specs.Gave.{gone_with}
 use Rattle.shared_world.specs.rows.Attempts.{Aborts, AttemptGoes, Commits}
 use Rattle.shared_world.specs.rows.Pieces.{ClaimsEnd, IsSet, but_gone, task_gone}
-use Rattle.shared_world.specs.rows.Tasks.{AfterStep, EndGives, Forked, IsMarkedTask, Missing, RootGives, StepGives, conflicts, valid}
+use Rattle.shared_world.specs.rows.Tasks.{AfterStep, EndGives, Forked, IsMarkedTask, Missing, RootGives, StepGives, WaitsForTurn, conflicts, valid, waits}
 use Rattle.shared_world.specs.Shared.{Shared, claimed}
 use Rattle.task_fork_join.specs.Attempt.{Attempt}
 use Rattle.task_fork_join.specs.declared.stepped.Stepped.{Stepped}
@@ -71,14 +71,18 @@ module _ (base : Shared) (b : Board) (same : SamePieces base.board b) where
     others = row.others;
   }
 
-  pub root-again : (u : Name) (x : Unit) (tree : Attempt) (ended : TaskEnd) (found : Given) (new : Shared) → RootGives mid u x tree ended found new → RootGives base u x tree ended found new
-  root-again u x tree ended found new (valid level all row) = valid level all (by ended row)
+  waits-again : (u task : Name) (found : Given) (new : Shared) → WaitsForTurn mid u task found new → WaitsForTurn base u task found new
+  waits-again u task found new row = record { ahead = row.ahead; leads = row.leads; found_is = row.found_is; marked = marked-again task _ new row.marked }
+
+  pub root-again : (u : Name) (x : Unit) (task : Name) (tree : Attempt) (ended : TaskEnd) (found : Given) (new : Shared) → RootGives mid u x task tree ended found new → RootGives base u x task tree ended found new
+  root-again u x task tree ended found new (waits row) = waits (waits-again u task found new row)
+  root-again u x task tree ended found new (valid level all row) = valid level all (by ended row)
     where
       by : (e : TaskEnd) → EndGives mid u x tree e found new → EndGives base u x tree e found new
       by (end.Value v) r = commits-again u x tree v found new r
       by (end.Fault code at) r = record { found_is = r.found_is; pieces = λ q. r.pieces q ∙ same q; others = r.others }
       by end.Spent r = record { found_is = r.found_is; pieces = λ q. r.pieces q ∙ same q; others = r.others }
-  root-again u x tree ended found new (conflicts level row) = conflicts level (record {
+  root-again u x task tree ended found new (conflicts level row) = conflicts level (record {
     conflict = row.conflict;
     first = row.first;
     ref = row.ref;
@@ -92,14 +96,14 @@ module _ (base : Shared) (b : Board) (same : SamePieces base.board b) where
   step-again u x task tree (stepped.WaitJoin future) found new row = (row.0, marked-again task _ new row.1)
   step-again u x task tree (stepped.NotInSnapshot ref) found new row = on (newest (versions_of base.versions ref)) row
     where
-      on : (v : Option Version) → Missing mid u x tree ref v found new → Missing base u x tree ref v found new
-      on None r = r
+      on : (v : Option Version) → Missing mid u x task tree ref v found new → Missing base u x task tree ref v found new
+      on None r = waits-again u task found new r
       on (Some version) r = aborts-again u x tree ref version.number found new r
   step-again u x task tree stepped.Finished found new row = (row.0, marked-again task _ new row.1)
 
   pub after-again : (u : Name) (x : Unit) (task : Name) (tree : Attempt) (went : Stepped) (ended : Option TaskEnd) (found : Given) (new : Shared) → AfterStep mid u x task tree went ended found new → AfterStep base u x task tree went ended found new
   after-again u x task tree went None found new row = step-again u x task tree went found new row
-  after-again u x task tree went (Some e) found new row = root-again u x tree e found new row
+  after-again u x task tree went (Some e) found new row = root-again u x task tree e found new row
 
 -- the claims that end
 pub gone-again : (old mid new : Shared) (task : Name) → SamePieces old.board mid.board → ((t : _) → claimed mid t ≡ claimed old t) → ClaimsEnd (gone_with mid.board new.board task) mid new → ClaimsEnd (gone_with old.board new.board task) old new

@@ -106,7 +106,7 @@ module _ (old new : Shared) (mid settled_board : Board) (left : Named Attempt) (
     (undone : IsUndone u old.attempts old.board left mid) (is : IsUnitOf old u moved) (given_so : IsGiven moved (answer.Value v) machine) (has : (tree : Attempt) → named u old.attempts ≡ Some tree → HasGathered u tree g)
     (made_so : (x : Unit) → unit_at old.board u ≡ Some x → made ≡ suc x.made) (number_so : number ≡ suc (length old.history)) (pruned : ArePrunedFor left (committed old.versions g.writes.items number) new.versions)
     (found_is : found ≡ given.Settled (Run u)) (set : IfSome (unit_at mid u) (λ (x : Unit). IsMoved u x machine made (mark.Ready work.Eval) mid settled_board))
-    (vacant : (a : Name) → IsSome (named a g.deeds.actors.entries) → piece_at old.board a ≡ None) (free : (a : Name) → named a old.taken ≡ None) (done : AreDone u g.deeds old.mails new.mails settled_board new.board)
+    (vacant : (a : Name) → IsSome (named a g.deeds.actors.entries) → piece_at old.board a ≡ None) (done : AreDone u g.deeds old.taken old.mails new.mails settled_board new.board)
     (others : new ≡ record old { history = old.history ++ Run u ∷ []; versions = new.versions; attempts = left; bytes = old.bytes ++ g.text.items; board = new.board; mails = new.mails }) where
   left_is : new.attempts ≡ left
   left_is = ap (λ (s : Shared). s.attempts) others
@@ -160,10 +160,10 @@ module _ (old new : Shared) (mid settled_board : Board) (left : Named Attempt) (
     acts = record {
       none = λ a actor is. vacant a (subst IsSome (sym (made_at a ∙ is)) refl);
       pieces = λ a.
-          done.pieces a ∙ ap (λ made. begun made (mail_at new.mails a) (reached (letters_to a g.deeds.letters.items) (piece_at done.board a))) (made_at a)
-          ∙ ap (λ ms. begun (spawned effects a) (mail_at new.mails a) (reached ms (piece_at done.board a))) (sent_to a)
-          ∙ acted-so u (spawned effects a) (effects_to a effects) (mail_at new.mails a) (piece_at done.board a)
-          ∙ ap (λ found. acted (is_some found) (spawned effects a) (effects_to a effects) (mail_at new.mails a) (piece_at done.board a)) (sym (free a));
+          let taken = is_some (named a old.taken) in
+          done.pieces a ∙ ap (λ made. begun made (mail_at new.mails a) (reached taken (letters_to a g.deeds.letters.items) (piece_at done.board a))) (made_at a)
+          ∙ ap (λ ms. begun (spawned effects a) (mail_at new.mails a) (reached taken ms (piece_at done.board a))) (sent_to a)
+          ∙ acted-so u taken (spawned effects a) (effects_to a effects) (mail_at new.mails a) (piece_at done.board a);
     }
 
     pub row-so : Commits old u x tree v found new

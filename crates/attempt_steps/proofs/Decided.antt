@@ -32,7 +32,7 @@ pub decided-abort : (old new : Shared) (owner : Name) (c : Changed) (result : Re
     → AbortsOr old owner c.name c.version new result → DecidedOr old owner new result
 decided-abort old new owner c (Err e) trying changed r = r
 decided-abort old new owner c (Ok found) trying changed r = record {
-  row = λ x tree ended there attempt is_ended.
+  row = λ task x tree ended there attempt is_ended.
       let is = at-attempt (named owner old.attempts) (λ (t : Attempt). IsValidated old.versions t (Some c)) tree attempt changed in
       conflicts trying.level (record {
         conflict = is.conflict;
@@ -51,7 +51,7 @@ decided-abort old new owner c (Ok found) trying changed r = record {
 pub decided-settle : (old new : Shared) (owner : Name) (result : Result Given AllocError) → IsTrying old owner → IfSome (named owner old.attempts) (λ tree. IsValidated old.versions tree None) → SettledOr old owner new result → DecidedOr old owner new result
 decided-settle old new owner (Err e) trying unchanged r = r
 decided-settle old new owner (Ok found) trying unchanged r = record {
-  row = λ x tree ended there attempt is_ended. valid trying.level (at-attempt (named owner old.attempts) (λ (t : Attempt). IsValidated old.versions t None) tree attempt unchanged) (r.row x tree ended there attempt is_ended);
+  row = λ task x tree ended there attempt is_ended. valid trying.level (at-attempt (named owner old.attempts) (λ (t : Attempt). IsValidated old.versions t None) tree attempt unchanged) (r.row x tree ended there attempt is_ended);
   claims = r.claims;
 }
 

@@ -112,10 +112,10 @@ pub letters-are : (u : Name) (effects : List Effect) (d : Deeds) → AreDeeds u 
 letters-are u effects d are a = sym (append-nil (letters_to a d.letters.items)) ∙ are.letters a
 
 -- what stands under a name then
-pub acted-so : (u : Name) (made : Option ActorState) (sent : List (List Value)) (mail : List Message) (found : Option Piece) → begun made mail (reached (map (settled u) sent) found) ≡ acted false made sent mail found
-acted-so u (Some state) sent mail found = refl
-acted-so u None [] mail found = refl
-acted-so u None (args ∷ more) mail found = refl
+pub acted-so : (u : Name) (taken : Bool) (made : Option ActorState) (sent : List (List Value)) (mail : List Message) (found : Option Piece) → begun made mail (reached taken (map (settled u) sent) found) ≡ acted taken made sent mail found
+acted-so u taken (Some state) sent mail found = refl
+acted-so u taken None [] mail found = refl
+acted-so u taken None (args ∷ more) mail found = refl
 
 -- what the actor becomes, as the meaning has it
 pub becoming-or : (next before : Option Becoming) → option_map becoming_of (option_or next before) ≡ option_or (option_map becoming_of next) (option_map becoming_of before)

@@ -14,11 +14,9 @@ use Rattle.task_fork_join.specs.declared.task.Task.{Task}
 use Rattle.task_fork_join.specs.declared.task_end.TaskEnd.{TaskEnd}
 use Rattle.value_core.specs.Named.{Name, made_by, named}
 use Rattle.attempt_steps.proofs.Decided.{at-attempt}
-use Rattle.attempt_steps.proofs.Ending.{decided-ends}
 use Rattle.attempt_steps.proofs.Wanting.{settling-wanting}
 use Rattle.shared_world.specs.Stands.{Stands}
-use Rattle.attempt_steps.specs.Deciding.{HasDecided}
-use Rattle.attempt_steps.specs.Tasks.{DecidedOrWaits, IsOwned, IsTaskIn, IsTaskOf, TaskCame}
+use Rattle.attempt_steps.specs.Tasks.{DecidedOrWaits, HasDecidedAt, IsOwned, IsTaskIn, IsTaskOf, TaskCame}
 use Rattle.attempt_steps.specs.Undoing.{HasAttempt}
 
 among-made : (tree : Attempt) (task next : Name) → next_made_at tree task ≡ Some next → is_some (named task tree.tasks) ≡ true
@@ -42,7 +40,7 @@ open-of (Some tree) is = on (end_at tree) refl is
     on (Some ended) so e = cc
 
 -- what comes of the attempt of a task, whose root is at its end
-pub ended-came : (old new : Shared) (owner task : Name) (tree : Attempt) (e : TaskEnd) (found : Given) → IsTaskIn old owner task tree → named task old.owners ≡ Some owner → end_at tree ≡ Some e → HasDecided old owner new found → GaveTask old task found new
+pub ended-came : (old new : Shared) (owner task : Name) (tree : Attempt) (e : TaskEnd) (found : Given) → IsTaskIn old owner task tree → named task old.owners ≡ Some owner → end_at tree ≡ Some e → HasDecidedAt old owner task new found → GaveTask old task found new
 ended-came old new owner task tree e found is of ended r = record {
   owner = owner;
   unit = is.unit;
@@ -53,7 +51,7 @@ ended-came old new owner task tree e found is of ended r = record {
   unit_there = is.unit_there;
   attempt = is.attempt;
   gives = subst (λ o. TaskGives old owner is.unit task tree o (machine_of tree task) found new) (sym ended) (r.row is.unit tree e is.unit_there is.attempt ended);
-  claims = decided-ends old new owner task is.unit tree e found is (r.row is.unit tree e is.unit_there is.attempt ended) r.claims;
+  claims = r.claims tree e is.attempt ended;
 }
 
 -- so it is for a task that goes on
@@ -72,7 +70,7 @@ settled-task old new owner task next (Ok found) st owned made ended r =
     (λ e is. ended-came old new owner task has.tree e found task_in owned.of is r)
   where
     has : HasAttempt old owner
-    has = owned.trying.has
+    has = owned.has
 
     task_in : IsTaskIn old owner task has.tree
     task_in = record {
@@ -82,5 +80,4 @@ settled-task old new owner task next (Ok found) st owned made ended r =
       unit_there = has.there;
       attempt = has.attempt;
       among = among-made has.tree task next (at-attempt (named owner old.attempts) (λ (t : Attempt). next_made_at t task ≡ Some next) has.tree has.attempt made);
-      free = owned.trying.free;
     }

@@ -15,7 +15,7 @@ use Rattle.shared_world.specs.Gave.{gone_with, is_gone}
 use Rattle.shared_world.specs.rows.Actors.{acted, roused_unless, spawned}
 use Rattle.shared_world.specs.rows.Attempts.{ActorsAct, AttemptGoes}
 use Rattle.shared_world.specs.rows.Pieces.{ClaimsEnd, IsSet, but_gone, is_task, piece_or_task, task_gone}
-use Rattle.shared_world.specs.rows.Tasks.{EndGives, RootGives, conflicts, valid}
+use Rattle.shared_world.specs.rows.Tasks.{EndGives, RootGives, conflicts, valid, waits}
 use Rattle.shared_world.specs.Shared.{Shared, claimed, is_going}
 use Rattle.task_fork_join.specs.Attempt.{Attempt}
 use Rattle.task_fork_join.specs.declared.task_end.TaskEnd.{TaskEnd}
@@ -151,9 +151,9 @@ task-goes old new owner task y tree is goes = ap (λ p. is_some p && not (is_som
     gone = goes.tasks.others task not_owner ∙ ap (λ c. cond c (task_gone (piece_at old.board task)) (piece_at old.board task)) is.among ∙ ap task_gone is.there
 
 -- the claims end of a task whose attempt was decided on
-pub decided-ends : (old new : Shared) (owner task : Name) (x : Unit) (tree : Attempt) (ended : TaskEnd) (found : Given) → IsTaskIn old owner task tree → RootGives old owner x tree ended found new → GoneEnd old new
+pub decided-ends : (old new : Shared) (owner task : Name) (x : Unit) (tree : Attempt) (ended : TaskEnd) (found : Given) → named owner old.aheads ≡ None → IsTaskIn old owner task tree → RootGives old owner x task tree ended found new → GoneEnd old new
     → ClaimsEnd (gone_with old.board new.board task) old new
-decided-ends old new owner task x tree ended found is gives ends going ticket = ends going ticket ∙ on (claimed old ticket)
+decided-ends old new owner task x tree ended found level is gives ends going ticket = ends going ticket ∙ on (claimed old ticket)
   where
     here : is_gone old.board new.board task ≡ true
     here = by gives
@@ -165,9 +165,10 @@ decided-ends old new owner task x tree ended found is gives ends going ticket = 
         by-end (end.Fault code at) row = let no : false ≡ true = sym (ap (λ (s : Shared). is_going s.end) row.others) ∙ going in cc
         by-end end.Spent row = let no : false ≡ true = sym (ap (λ (s : Shared). is_going s.end) row.others) ∙ going in cc
 
-        by : RootGives old owner x tree ended found new → is_gone old.board new.board task ≡ true
-        by (valid level all row) = by-end ended row
-        by (conflicts level row) = task-goes old new owner task row.aborts.unit tree is row.aborts.goes
+        by : RootGives old owner x task tree ended found new → is_gone old.board new.board task ≡ true
+        by (waits row) = let no : None ≡ Some row.ahead = sym level ∙ row.leads in cc
+        by (valid so all row) = by-end ended row
+        by (conflicts so row) = task-goes old new owner task row.aborts.unit tree is row.aborts.goes
 
     at : (q : Name) (c : Bool) → same_name q task ≡ c → is_gone old.board new.board q ≡ (c || is_gone old.board new.board q)
     at q true e = ap (is_gone old.board new.board) (same_name-equal q task e) ∙ here

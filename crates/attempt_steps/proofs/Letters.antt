@@ -1,7 +1,7 @@
 -- What is done to actors: messages that are put, and actors that begin, one after the other.
 use Rattle.std.proofs.Common.{◌≡◌, ◌∙◌, ◌⊎◌, ◌+◌, ◌<◌, ◌≤◌, ℕ, Bool, true, false, cond, inl, inr, length, append_assoc, arith, List, [], ◌∷◌, ◌++◌, refl, sym, ap, subst}
 use Rattle.std.specs.Option.{IsSome, option_map}
-use Rattle.std.specs.Prelude.{IfSome, None, Option, Some}
+use Rattle.std.specs.Prelude.{IfSome, None, Option, Some, is_some}
 use Rattle.actor_mailbox.specs.declared.message.Message.{Message}
 use Rattle.actor_mails.specs.Mails.{Boxes, IsMailed, KeepsRoom, KeepsRoomBut, Mail, held, mail_at, room_at}
 use Rattle.attempt_steps.specs.declared.deeds.Letter.{Letter}
@@ -9,7 +9,7 @@ use Rattle.attempt_steps.specs.Deeds.{AreVacant, CanHoldAll, IsVacant, begun, co
 use Rattle.serial_model.specs.declared.actor_state.ActorState.{ActorState}
 use Rattle.shared_world.proofs.Besides.{apart-of}
 use Rattle.shared_world.proofs.Live.{unit-piece}
-use Rattle.shared_world.specs.rows.Actors.{actor_with, mark_roused, roused}
+use Rattle.shared_world.specs.rows.Actors.{actor_with, mark_roused, roused, roused_unless}
 use Rattle.shared_world.specs.rows.Attempts.{IsWithout}
 use Rattle.unit_table.proofs.Wakes.{same_claims_more}
 use Rattle.unit_table.specs.Board.{Board, HasPlace, IsPutAt, SameClaims, SamePieces, piece_at, unit_at}
@@ -86,19 +86,19 @@ unit-same b u = on (unit_at b u) refl
 
 -- ---- messages that are put
 -- The messages that are left are still to be put behind what waits, and to rouse their receivers.
-pub record AreComing (all left : List Letter) (boxes after : Boxes) (old new : Board) : Type 0 where
+pub record AreComing (taken : Named Message) (all left : List Letter) (boxes after : Boxes) (old new : Board) : Type 0 where
   pub mailed : (a : Name) → mail_at (held after) a ++ letters_to a left ≡ mail_at (held boxes) a ++ letters_to a all
-  pub pieces : (a : Name) → reached (letters_to a left) (piece_at new a) ≡ reached (letters_to a all) (piece_at old a)
+  pub pieces : (a : Name) → reached (is_some (named a taken)) (letters_to a left) (piece_at new a) ≡ reached (is_some (named a taken)) (letters_to a all) (piece_at old a)
   pub room : CanHoldAll left after
   pub claims : SameClaims old new
   pub places : (a : Name) → HasPlace old a → HasPlace new a
 
 -- a message is put
-pub record IsLetterPut (l : Letter) (boxes after : Boxes) (old new : Board) : Type 0 where
+pub record IsLetterPut (l : Letter) (taken : Named Message) (boxes after : Boxes) (old new : Board) : Type 0 where
   pub mailed : IsMailed l.to (mail_at (held boxes) l.to ++ l.message ∷ []) (held boxes) (held after)
   pub less : room_at boxes l.to ≤ room_at after l.to + 1
   pub kept : KeepsRoomBut l.to boxes after
-  pub roused : IsPutAt l.to (option_map roused (piece_at old l.to)) old new
+  pub roused : IsPutAt l.to (roused_unless (is_some (named l.to taken)) (piece_at old l.to)) old new
   pub claims : SameClaims old new
   pub places : (a : Name) → HasPlace old a → HasPlace new a
 
@@ -116,22 +116,24 @@ roused-twice (Some (piece.Actor a)) = ap (λ m. Some (piece.Actor (record a { ma
     on false (mark.Finished v) = refl
     on false mark.Dropped = refl
 
-reached-more : (m : Message) (ms : List Message) (found : Option Piece) → reached ms (option_map roused found) ≡ reached (m ∷ ms) found
-reached-more m [] found = refl
-reached-more m (first ∷ rest) found = roused-twice found
+reached-more : (begun : Bool) (m : Message) (ms : List Message) (found : Option Piece) → reached begun ms (roused_unless begun found) ≡ reached begun (m ∷ ms) found
+reached-more begun m [] found = refl
+reached-more true m (first ∷ rest) found = refl
+reached-more false m (first ∷ rest) found = roused-twice found
 
-module _ (l : Letter) (all left : List Letter) (boxes mid after : Boxes) (old b new : Board) (are : AreComing all (l ∷ left) boxes mid old b) (put : IsLetterPut l mid after b new) where
+module _ (l : Letter) (taken : Named Message) (all left : List Letter) (boxes mid after : Boxes) (old b new : Board) (are : AreComing taken all (l ∷ left) boxes mid old b) (put : IsLetterPut l taken mid after b new) where
   mailed-step : (a : Name) (c : Bool) → same_name a l.to ≡ c → mail_at (held after) a ++ letters_to a left ≡ mail_at (held mid) a ++ (cond c (l.message ∷ []) [] ++ letters_to a left)
   mailed-step a true e =
       ap (λ n. mail_at (held after) n ++ letters_to a left) (same_name-equal a l.to e) ∙ ap (λ ms. ms ++ letters_to a left) put.mailed.here
       ∙ append_assoc (mail_at (held mid) l.to) (l.message ∷ []) (letters_to a left) ∙ ap (λ n. mail_at (held mid) n ++ l.message ∷ letters_to a left) (sym (same_name-equal a l.to e))
   mailed-step a false e = ap (λ ms. ms ++ letters_to a left) (put.mailed.others a (apart-of a l.to e))
 
-  pieces-step : (a : Name) (c : Bool) → same_name a l.to ≡ c → reached (letters_to a left) (piece_at new a) ≡ reached (cond c (l.message ∷ []) [] ++ letters_to a left) (piece_at b a)
+  pieces-step : (a : Name) (c : Bool) → same_name a l.to ≡ c → reached (is_some (named a taken)) (letters_to a left) (piece_at new a) ≡ reached (is_some (named a taken)) (cond c (l.message ∷ []) [] ++ letters_to a left) (piece_at b a)
   pieces-step a true e =
-      ap (λ n. reached (letters_to a left) (piece_at new n)) (same_name-equal a l.to e) ∙ ap (reached (letters_to a left)) put.roused.here
-      ∙ ap (λ n. reached (letters_to a left) (option_map roused (piece_at b n))) (sym (same_name-equal a l.to e)) ∙ reached-more l.message (letters_to a left) (piece_at b a)
-  pieces-step a false e = ap (reached (letters_to a left)) (put.roused.others a (apart-of a l.to e))
+      let begun = is_some (named a taken) in
+      ap (λ n. reached begun (letters_to a left) (piece_at new n)) (same_name-equal a l.to e) ∙ ap (reached begun (letters_to a left)) put.roused.here
+      ∙ ap (λ n. reached begun (letters_to a left) (roused_unless (is_some (named n taken)) (piece_at b n))) (sym (same_name-equal a l.to e)) ∙ reached-more begun l.message (letters_to a left) (piece_at b a)
+  pieces-step a false e = ap (reached (is_some (named a taken)) (letters_to a left)) (put.roused.others a (apart-of a l.to e))
 
   room-step : (a : Name) (c : Bool) → same_name a l.to ≡ c → length (cond c (l.message ∷ []) [] ++ letters_to a left) ≤ room_at mid a → length (letters_to a left) ≤ room_at after a
   room-step a true e fits =
@@ -141,7 +143,7 @@ module _ (l : Letter) (all left : List Letter) (boxes mid after : Boxes) (old b 
       omega (arith, was, is, less, fits)
   room-step a false e fits = let kept : room_at mid a ≤ room_at after a = put.kept a (apart-of a l.to e) in omega (arith, kept, fits)
 
-  pub letter-put : AreComing all left boxes after old new
+  pub letter-put : AreComing taken all left boxes after old new
   letter-put = record {
     mailed = λ a. mailed-step a (same_name a l.to) refl ∙ are.mailed a;
     pieces = λ a. pieces-step a (same_name a l.to) refl ∙ are.pieces a;

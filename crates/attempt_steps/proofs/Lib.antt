@@ -10,4 +10,5 @@ pub mod Gone
 pub mod Letters
 pub mod Live
 pub mod Taking
+pub mod Waits
 pub mod Wanting

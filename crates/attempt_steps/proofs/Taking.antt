@@ -1,6 +1,6 @@
 -- Steps of tasks, and what comes of them.
 use Rattle.std.proofs.Common.{◌≡◌, ◌∙◌, Bool, true, false, ℕ, cond, refl, sym, ap, subst}
-use Rattle.std.specs.Option.{IsSome}
+use Rattle.std.specs.Option.{IsSome, option_map}
 use Rattle.std.specs.Prelude.{Err, IfOk, IfSome, None, Ok, OnErr, Option, Result, Some, is_err, is_some}
 use Rattle.std.specs.declared.alloc.AllocError.{AllocError}
 use Rattle.eval_step.specs.Evaluation.{Evaluation}
@@ -11,7 +11,8 @@ use Rattle.attempt_steps.proofs.Ending.{NoneGone, decided-ends, goes-end, marked
 use Rattle.attempt_steps.specs.declared.tasks.Child.{Child}
 use Rattle.attempt_steps.specs.Deciding.{DecidedOr, IsTrying}
 use Rattle.attempt_steps.specs.Tasks as tasks
-use Rattle.attempt_steps.specs.Tasks.{ComesAfter, DecidedOrWaits, HasMissed, HasForkedTask, HasRoomFor, HasStepped, IfNewest, IsOfStep, IsReadied, IsRoomFor, IsTaskAt, IsTaskIn, MissesOr, TaskMarked, TaskWaits}
+use Rattle.attempt_steps.specs.Tasks.{ComesAfter, DecidedOrWaits, DecidesOr, HasForkedTask, HasRoomFor, HasStepped, IsOfStep, IsReadied, IsRoomFor, IsTaskAt, IsTaskIn, MissesOr, TaskMarked, TaskWaits, UndoesOr}
+use Rattle.attempt_steps.specs.Waiting.{HasWaited, TurnWaitsOr}
 use Rattle.attempt_steps.specs.Undoing.{AbortsOr}
 use Rattle.ref_store.specs.declared.version.Version.{Version}
 use Rattle.ref_store.specs.Store.{versions_of}
@@ -19,9 +20,10 @@ use Rattle.ref_store.specs.Version.{newest}
 use Rattle.serial_model.specs.declared.halt.Halt.{Halt}
 use Rattle.shared_world.specs.declared.given.Given.{Given}
 use Rattle.shared_world.specs.Gave.{gone_with}
-use Rattle.shared_world.specs.rows.Attempts.{Aborts, AttemptGoes}
+use Rattle.shared_world.specs.rows.Attempts.{Aborts}
 use Rattle.shared_world.specs.rows.Pieces.{ClaimsEnd}
-use Rattle.shared_world.specs.rows.Tasks.{AfterStep, Missing}
+use Rattle.shared_world.specs.Ahead.{Ahead}
+use Rattle.shared_world.specs.rows.Tasks.{AfterStep, Missing, WaitsForTurn, waits}
 use Rattle.task_fork_join.specs.Stepping.{is_missing}
 use Rattle.world_steps.specs.declared.kept.Kept.{Kept}
 use Rattle.shared_world.specs.Shared.{Shared}
@@ -65,20 +67,82 @@ has-task s owner task at there = on (named owner s.attempts) at there
     on None at is = absurd (cc)
     on (Some tree) at is = record { tree = tree; is = at }
 
--- the attempt is undone for a ref that its snapshot does not have
-pub missed : (old new : Shared) (owner ref : Name) (number : ℕ) (result : Result Given AllocError) → IsTrying old owner → IfNewest (newest (versions_of old.versions ref)) number → AbortsOr old owner ref number new result → MissesOr old owner ref new result
-missed old new owner ref number (Err e) trying is r = r
-missed old new owner ref number (Ok found) trying is r = record {
-  row = λ x tree there attempt. on (newest (versions_of old.versions ref)) is x tree (r.row x tree there attempt);
+-- the attempt is undone for that version of a ref
+pub undone-for : (old new : Shared) (owner ref : Name) (number : ℕ) (result : Result Given AllocError) → IsTrying old owner → AbortsOr old owner ref number new result → UndoesOr old owner ref number new result
+undone-for old new owner ref number (Err e) trying r = r
+undone-for old new owner ref number (Ok found) trying r = record {
+  row = r.row;
   claims =
       let has = trying.has in
       let row = r.row has.unit has.tree has.there has.attempt in
       goes-end old new new.board owner row.unit has.tree (ap (λ (s : Shared). s.end) row.others) trying.free row.goes (stays-itself old.board new.board) (r.claims has.tree has.attempt);
 }
+
+-- it is the newest, which the snapshot does not have
+pub missed : (old new : Shared) (owner task ref : Name) (number : ℕ) (result : Result Given AllocError) → HasTask old owner task → Some number ≡ option_map (λ (v : Version). v.number) (newest (versions_of old.versions ref))
+    → UndoesOr old owner ref number new result → MissesOr old owner task ref new result
+missed old new owner task ref number (Err e) has is r = r
+missed old new owner task ref number (Ok found) has is r = record {
+  row = λ x tree there attempt. on (newest (versions_of old.versions ref)) is x tree (r.row x tree there attempt);
+  claims = let row = r.row has.is.unit has.tree has.is.unit_there has.is.attempt in undone-ends old new owner task row.unit has.tree has.is row.goes r.claims;
+}
   where
-    on : (v : Option Version) → IfNewest v number → (x : Unit) (tree : Attempt) → Aborts old owner x tree ref number found new → Missing old owner x tree ref v found new
-    on None never x tree row = absurd never
-    on (Some version) is_number x tree row = subst (λ n. Aborts old owner x tree ref n found new) is_number row
+    on : (v : Option Version) → Some number ≡ option_map (λ (w : Version). w.number) v → (x : Unit) (tree : Attempt) → Aborts old owner x tree ref number found new → Missing old owner x task tree ref v found new
+    on None is x tree row = cc
+    on (Some version) is x tree row = let same : number ≡ version.number = cc in subst (λ n. Aborts old owner x tree ref n found new) same row
+
+-- a turn that runs ahead is there
+record IsLeading (s : Shared) (owner : Name) : Type 0 where
+  ahead : Ahead
+  leads : named owner s.aheads ≡ Some ahead
+
+leading : (s : Shared) (owner : Name) → true ≡ is_some (named owner s.aheads) → IsLeading s owner
+leading s owner is = on (named owner s.aheads) refl is
+  where
+    on : (o : Option Ahead) → named owner s.aheads ≡ o → true ≡ is_some o → IsLeading s owner
+    on None e so = cc
+    on (Some ahead) e so = record { ahead = ahead; leads = e }
+
+waited : (old new : Shared) (owner task : Name) (found : Given) → true ≡ is_some (named owner old.aheads) → HasWaited old owner task new found → WaitsForTurn old owner task found new
+waited old new owner task found ahead r = let is = leading old owner ahead in record { ahead = is.ahead; leads = is.leads; found_is = r.found_is; marked = r.marked.marked }
+
+waited-ends : (old new : Shared) (owner task : Name) (found : Given) → HasWaited old owner task new found → ClaimsEnd (gone_with old.board new.board task) old new
+waited-ends old new owner task found r = marked-ends task old new (ap (λ (s : Shared). s.end) r.marked.marked.others) (set-keeps task _ _ old.board new.board r.marked.marked.set) r.marked.unlent
+
+-- the store has no version of the ref, and the task waits for its turn
+pub missed-waits : (old new : Shared) (owner task ref : Name) (result : Result Given AllocError) → true ≡ is_some (named owner old.aheads) → None ≡ option_map (λ (v : Version). v.number) (newest (versions_of old.versions ref)) → TurnWaitsOr old owner task new result
+    → MissesOr old owner task ref new result
+missed-waits old new owner task ref (Err e) ahead is r = r
+missed-waits old new owner task ref (Ok found) ahead is r = record {
+  row = λ x tree there attempt. on (newest (versions_of old.versions ref)) is x tree;
+  claims = waited-ends old new owner task found r;
+}
+  where
+    on : (v : Option Version) → None ≡ option_map (λ (w : Version). w.number) v → (x : Unit) (tree : Attempt) → Missing old owner x task tree ref v found new
+    on None is x tree = waited old new owner task found ahead r
+    on (Some version) is x tree = cc
+
+-- the root is at its end, and the task waits for its turn
+pub decided-after : (old new : Shared) (owner task : Name) (result : Result Given AllocError) → true ≡ is_some (named owner old.aheads) → TurnWaitsOr old owner task new result → DecidesOr old owner task new result
+decided-after old new owner task (Err e) ahead r = r
+decided-after old new owner task (Ok found) ahead r = record {
+  row = λ x tree ended there attempt is_ended. waits (waited old new owner task found ahead r);
+  claims = λ tree ended attempt is_ended. waited-ends old new owner task found r;
+}
+
+-- it was decided on
+pub decided-at : (old new : Shared) (owner task : Name) (result : Result Given AllocError) → IsTrying old owner → HasTask old owner task → DecidedOr old owner new result → DecidesOr old owner task new result
+decided-at old new owner task (Err e) trying has r = r
+decided-at old new owner task (Ok found) trying has r = record {
+  row = r.row task;
+  claims = λ tree ended attempt is_ended.
+      let same : has.tree ≡ tree = same-tree has.is.attempt attempt in
+      let is : IsTaskIn old owner task tree = subst (IsTaskIn old owner task) same has.is in
+      decided-ends old new owner task is.unit tree ended found trying.level is (r.row task is.unit tree ended is.unit_there attempt is_ended) r.claims;
+}
+  where
+    same-tree : {a b : Attempt} → named owner old.attempts ≡ Some a → named owner old.attempts ≡ Some b → a ≡ b
+    same-tree {a} {b} one two = let both : Some a ≡ Some b = sym one ∙ two in cc
 
 -- what a mark leaves that says the task is ready
 readied : (w : Work) (old mid new : Shared) (task : Name) → IsSameBut old mid → TaskMarked mid task (mark.Ready w) new → IsReadied w old task new
@@ -99,7 +163,7 @@ readied w old mid new task same marked = record {
     on (Some q) free = by q (same_name q task) refl free
 
 -- a decision that found no memory leaves the task ready to settle
-pub decided-waits : (old mid new : Shared) (owner task : Name) (result : Result Given AllocError) → is_err result ≡ true → Stands old → IsTaskAt old.board task → DecidedOr old owner mid result → TaskMarked mid task (mark.Ready work.Settle) new
+pub decided-waits : (old mid new : Shared) (owner task : Name) (result : Result Given AllocError) → is_err result ≡ true → Stands old → IsTaskAt old.board task → DecidesOr old owner task mid result → TaskMarked mid task (mark.Ready work.Settle) new
     → DecidedOrWaits old owner task new result
 decided-waits old mid new owner task (Ok found) err st at decided marked = cc
 decided-waits old mid new owner task (Err e) err st at same marked = readied work.Settle old mid new task same marked
@@ -121,7 +185,7 @@ after-ended old new owner task went (Ok found) has ended r = record {
       some-end (end_at tree) (at-attempt (named owner old.attempts) (λ (t : Attempt). true ≡ is_some (end_at t)) tree attempt ended) (λ e. AfterStep old owner x task tree went e found new) (λ e is. r.row x tree e there attempt is);
   claims =
       some-end (end_at has.tree) (at-attempt (named owner old.attempts) (λ (t : Attempt). true ≡ is_some (end_at t)) has.tree has.is.attempt ended) (λ e. ClaimsEnd (gone_with old.board new.board task) old new)
-      (λ e is. decided-ends old new owner task has.is.unit has.tree e found has.is (r.row has.is.unit has.tree e has.is.unit_there has.is.attempt is) r.claims);
+      (λ e is. r.claims has.tree e has.is.attempt is);
 }
 
 -- it is not, and the task waits
@@ -135,25 +199,16 @@ after-waits old new owner task future went (Ok found) st has going is r = record
   claims = marked-ends task old new (ap (λ (s : Shared). s.end) r.marked.marked.others) (set-keeps task _ _ old.board new.board r.marked.marked.set) r.marked.unlent;
 }
 
--- the attempt of the unit goes, and the unit stands somewhere
-record Goes (old : Shared) (owner : Name) (tree : Attempt) (new : Shared) : Type 0 where
-  unit : Unit
-  goes : AttemptGoes old owner unit tree new
-
 -- it is not, and the snapshot does not have the ref
 pub after-misses : (old new : Shared) (owner task ref : Name) (went : Stepped) (result : Result Given AllocError) → Stands old → HasTask old owner task → IfSome (named owner old.attempts) (λ tree. false ≡ is_some (end_at tree))
-    → went ≡ stepped.NotInSnapshot ref → MissesOr old owner ref new result → ComesAfter old owner task went new result
+    → went ≡ stepped.NotInSnapshot ref → MissesOr old owner task ref new result → ComesAfter old owner task went new result
 after-misses old new owner task ref went (Err e) st has going is r = tasks.misses (ap is_missing is) r
 after-misses old new owner task ref went (Ok found) st has going is r = record {
   row = λ x tree there attempt.
       no-end (end_at tree) (at-attempt (named owner old.attempts) (λ (t : Attempt). false ≡ is_some (end_at t)) tree attempt going) (λ e. AfterStep old owner x task tree went e found new)
       (subst (λ k. AfterStep old owner x task tree k None found new) (sym is) (r.row x tree there attempt));
-  claims = let goes = gone (newest (versions_of old.versions ref)) (r.row has.is.unit has.tree has.is.unit_there has.is.attempt) in undone-ends old new owner task goes.unit has.tree has.is goes.goes r.claims;
+  claims = r.claims;
 }
-  where
-    gone : (v : Option Version) → Missing old owner has.is.unit has.tree ref v found new → Goes old owner has.tree new
-    gone None row = absurd row
-    gone (Some version) row = record { unit = row.unit; goes = row.goes }
 
 -- it is not, and the task forks
 pub after-forks : (old new : Shared) (owner task future : Name) (went : Stepped) (found : Given) → IfSome (named owner old.attempts) (λ tree. false ≡ is_some (end_at tree)) → went ≡ stepped.Forked future

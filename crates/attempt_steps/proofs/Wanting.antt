@@ -106,7 +106,6 @@ task-again old new owner task moved h same is = record {
     unit_there = ap (option_and_then unit_in) (same.pieces owner) ∙ is.task_in.unit_there;
     attempt = ap (λ (s : Shared). named owner s.attempts) same.rest ∙ is.task_in.attempt;
     among = is.task_in.among;
-    free = λ ticket lent. is.task_in.free ticket (sym (same.claims.to ticket) ∙ lent);
   };
   of = ap (λ (s : Shared). named task s.owners) same.rest ∙ is.of;
   machine = is.machine;
@@ -166,7 +165,6 @@ module _ (old : Shared) (b : Board) (st : Stands old) (on_going : is_going old.e
     unit_there = ap (option_and_then unit_in) (same owner) ∙ is.task_in.unit_there;
     attempt = named-here owner after old.attempts;
     among = ap is_some shape.here;
-    free = λ ticket lent. is.task_in.free ticket (sym (claims.to ticket) ∙ lent);
   }
     where
       kept : IsKept task moved is.tree.tasks
@@ -327,7 +325,7 @@ gave-again old b same claims task found new g = record {
 }
   where
     on : (ended : Option TaskEnd) (machine : Option Evaluation) → TaskGives (record old { board = b }) g.owner g.unit task g.tree ended machine found new → TaskGives old g.owner g.unit task g.tree ended machine found new
-    on (Some ended) machine r = root-again old b same g.owner g.unit g.tree ended found new r
+    on (Some ended) machine r = root-again old b same g.owner g.unit task g.tree ended found new r
     on None None r = absurd r
     on None (Some machine) r = record {
       moved = r.moved;

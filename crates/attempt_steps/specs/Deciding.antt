@@ -1,5 +1,5 @@
 -- Attempts whose root is at its end.
-use Rattle.std.specs.Prelude.{◌≡◌, ◌≤◌, List, [], Err, IfSome, None, Ok, Option, Result, Some, All, length, suc}
+use Rattle.std.specs.Prelude.{◌≡◌, ◌≤◌, List, [], Err, IfSome, None, Ok, Option, Result, Some, All, false, length, suc}
 use Rattle.std.specs.declared.alloc.AllocError.{AllocError}
 use Rattle.std.specs.List.{slice_get}
 use Rattle.std.specs.Vec.{vec_capacity}
@@ -26,8 +26,9 @@ use Rattle.task_fork_join.specs.declared.task_end.TaskEnd.{TaskEnd}
 use Rattle.txn_commit.specs.Conflict.{IsFirstConflict, IsUnchanged}
 use Rattle.txn_commit.specs.declared.conflict.Conflict.{Conflict}
 use Rattle.txn_snapshot.specs.SnapshotTask.{SnapshotTask}
-use Rattle.unit_table.specs.Board.{unit_at}
+use Rattle.unit_table.specs.Board.{Board, unit_at}
 use Rattle.unit_table.specs.declared.unit.Unit.{Unit}
+use Rattle.unit_table.specs.Piece.{says_ready}
 use Rattle.value_core.specs.declared.value.Value.{Value}
 use Rattle.value_core.specs.Named.{Name, Named, named}
 use Rattle.world_model.specs.rows.Commits.{effects_bytes}
@@ -38,9 +39,15 @@ pub record IsTrying (s : Shared) (owner : Name) : Type 0 where
   pub level : named owner s.aheads ≡ None
   pub free : IsFree s.board owner
 
--- what comes of an attempt whose root is at its end; or for want of memory nothing changes
+-- a unit that nothing can be done with now
+pub record IsWaitingUnit (b : Board) (owner : Name) : Type 0 where
+  pub unit : Unit
+  pub there : unit_at b owner ≡ Some unit
+  pub waits : says_ready unit.mark ≡ false
+
+-- what comes of an attempt whose root is at its end, whichever task of it told so; or for want of memory nothing changes
 pub record HasDecided (old : Shared) (owner : Name) (new : Shared) (found : Given) : Type 0 where
-  pub row : (x : Unit) (tree : Attempt) (ended : TaskEnd) → unit_at old.board owner ≡ Some x → named owner old.attempts ≡ Some tree → end_at tree ≡ Some ended → RootGives old owner x tree ended found new
+  pub row : (task : Name) (x : Unit) (tree : Attempt) (ended : TaskEnd) → unit_at old.board owner ≡ Some x → named owner old.attempts ≡ Some tree → end_at tree ≡ Some ended → RootGives old owner x task tree ended found new
   pub claims : GoneEnd old new
 
 abbrev pub DecidedOr : Shared → Name → Shared → Result Given AllocError → Type 0

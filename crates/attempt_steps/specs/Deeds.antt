@@ -1,5 +1,5 @@
 -- What the effects of a commit do to actors.
-use Rattle.std.specs.Prelude.{◌≡◌, ◌≤◌, ◌++◌, ◌∷◌, [], ℕ, List, Option, None, Some, IfSome, cond, flat_map, length, map}
+use Rattle.std.specs.Prelude.{◌≡◌, ◌≤◌, ◌++◌, ◌∷◌, [], ℕ, Bool, List, Option, None, Some, IfSome, cond, flat_map, is_some, length, map}
 use Rattle.std.specs.Option.{IsSome, option_map, option_or}
 use Rattle.actor_mailbox.specs.declared.message.Message.{Message}
 use Rattle.actor_mails.specs.Mails.{Boxes, Mail, mail_at, room_at}
@@ -10,7 +10,7 @@ use Rattle.serial_model.specs.declared.effect.Effect.{Effect}
 use Rattle.serial_model.specs.declared.effect.What.{What}
 use Rattle.serial_model.specs.Sends.{effects_to, what_sends}
 use Rattle.serial_model.specs.State.{UnitState}
-use Rattle.shared_world.specs.rows.Actors.{actor_with, roused, spawned}
+use Rattle.shared_world.specs.rows.Actors.{actor_with, roused_unless, spawned}
 use Rattle.shared_world.specs.Shared.{becoming_of}
 use Rattle.unit_table.specs.Board.{Board, HasPlace, IsPutAt, SameClaims, piece_at, unit_at}
 use Rattle.unit_table.specs.declared.piece.Piece.{Piece}
@@ -85,10 +85,10 @@ CanHold counts boxes = (a : Name) → count_at counts a ≤ room_at boxes a
 abbrev pub CanHoldAll : List Letter → Boxes → Type 0
 CanHoldAll letters boxes = (a : Name) → length (letters_to a letters) ≤ room_at boxes a
 
--- what stands there, which has mail now where these are any messages
-abbrev pub reached : List Message → Option Piece → Option Piece
-reached [] found = found
-reached (m ∷ ms) found = option_map roused found
+-- what stands there, which has mail now where these are any messages, unless a turn of it is begun
+abbrev pub reached : Bool → List Message → Option Piece → Option Piece
+reached begun [] found = found
+reached begun (m ∷ ms) found = roused_unless begun found
 
 -- an actor that begins, with that mail; or what stands there
 abbrev pub begun : Option ActorState → List Message → Option Piece → Option Piece
@@ -96,9 +96,9 @@ begun None mail found = found
 begun (Some state) mail found = Some (actor_with state mail)
 
 -- The actor of the unit becomes what is said; the messages are the last of their receivers' mail; the actors are there.
-pub record AreDone (u : Name) (d : Deeds) (mails after : Mail) (old new : Board) : Type 0 where
+pub record AreDone (u : Name) (d : Deeds) (taken : Named Message) (mails after : Mail) (old new : Board) : Type 0 where
   pub board : Board
   pub unit : IfSome (unit_at old u) (λ (x : Unit). IsPutAt u (Some (piece.Unit (turned_unit d.becomes x))) old board)
   pub mailed : (a : Name) → mail_at after a ≡ mail_at mails a ++ letters_to a d.letters.items
-  pub pieces : (a : Name) → piece_at new a ≡ begun (named a d.actors.entries) (mail_at after a) (reached (letters_to a d.letters.items) (piece_at board a))
+  pub pieces : (a : Name) → piece_at new a ≡ begun (named a d.actors.entries) (mail_at after a) (reached (is_some (named a taken)) (letters_to a d.letters.items) (piece_at board a))
   pub claims : SameClaims old new

@@ -4,3 +4,4 @@ pub mod Gone
 pub mod Live
 pub mod Tasks
 pub mod Undoing
+pub mod Waiting

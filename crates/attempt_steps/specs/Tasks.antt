@@ -4,10 +4,9 @@ use Rattle.std.specs.declared.alloc.AllocError.{AllocError}
 use Rattle.eval_step.specs.Evaluation.{Evaluation, IsAsk, IsAsking, IsOf, IsSame}
 use Rattle.world_steps.specs.declared.kept.Kept.{Kept}
 use Rattle.attempt_steps.specs.declared.tasks.Child.{Child}
-use Rattle.attempt_steps.specs.Deciding.{HasDecided, IsTrying}
-use Rattle.attempt_steps.specs.Gone.{GoneEnd, IsFree}
+use Rattle.attempt_steps.specs.Gone.{GoneEnd}
+use Rattle.attempt_steps.specs.Undoing.{HasAttempt}
 use Rattle.world_steps.specs.Kept.{IsSameBut}
-use Rattle.ref_store.specs.declared.version.Version.{Version}
 use Rattle.ref_store.specs.Store.{versions_of}
 use Rattle.ref_store.specs.Version.{newest}
 use Rattle.serial_model.specs.declared.halt.Halt.{Halt}
@@ -20,13 +19,15 @@ use Rattle.shared_world.specs.Gave.{GaveTask, gone_with}
 use Rattle.shared_world.specs.Returned.{halt_of}
 use Rattle.shared_world.specs.rows.Pieces.{ClaimsEnd}
 use Rattle.shared_world.specs.Marks.{HasMarks}
-use Rattle.shared_world.specs.rows.Tasks.{AfterStep, Forked, IsMarkedTask, Missing}
+use Rattle.shared_world.specs.rows.Attempts.{Aborts}
+use Rattle.shared_world.specs.rows.Tasks.{AfterStep, Forked, IsMarkedTask, Missing, RootGives}
 use Rattle.task_fork_join.specs.Stepping.{is_missing}
 use Rattle.shared_world.specs.Shared.{Shared}
 use Rattle.shared_world.specs.Stands.{Stands}
 use Rattle.task_fork_join.specs.Attempt.{Attempt, end_at, machine_of, next_made_at}
 use Rattle.task_fork_join.specs.declared.stepped.Stepped.{Stepped}
 use Rattle.task_fork_join.specs.declared.stepped.Stepped.TheVariants as stepped
+use Rattle.task_fork_join.specs.declared.task_end.TaskEnd.{TaskEnd}
 use Rattle.task_fork_join.specs.Step.{IsStep}
 use Rattle.unit_table.specs.Board.{Board, HasPlace, IsUnlent, lent_to, piece_at, unit_at}
 use Rattle.unit_table.specs.declared.mark.Mark.{Mark}
@@ -42,7 +43,7 @@ use Rattle.value_core.specs.declared.value.Value.{Value}
 use Rattle.value_core.specs.Named.{Name, Named, named, with_named}
 use Rattle.value_core.specs.Placed.{HasPlace as HasOwnerPlace}
 
--- a task of the attempt of a unit that no claim is on
+-- a task of the attempt of a unit
 pub record IsTaskIn (s : Shared) (owner task : Name) (tree : Attempt) : Type 0 where
   pub mark : Mark
   pub there : piece_at s.board task ≡ Some (piece.Task mark)
@@ -50,7 +51,6 @@ pub record IsTaskIn (s : Shared) (owner task : Name) (tree : Attempt) : Type 0 w
   pub unit_there : unit_at s.board owner ≡ Some unit
   pub attempt : named owner s.attempts ≡ Some tree
   pub among : is_some (named task tree.tasks) ≡ true
-  pub free : IsFree s.board owner
 
 -- such a task whose machine was moved to that halt
 pub record IsTaskOf (s : Shared) (owner task : Name) (moved : Evaluation) (h : Halt) : Type 0 where
@@ -133,11 +133,11 @@ pub record IsTaskAt (b : Board) (task : Name) : Type 0 where
   pub mark : Mark
   pub there : piece_at b task ≡ Some (piece.Task mark)
 
--- a task of an attempt of that unit, on which no claim is
+-- a task of an attempt of that unit
 pub record IsOwned (s : Shared) (task owner : Name) : Type 0 where
   pub at : IsTaskAt s.board task
   pub of : named task s.owners ≡ Some owner
-  pub trying : IsTrying s owner
+  pub has : HasAttempt s owner
 
 -- the task has that mark, and no claim is on it
 pub record TaskMarked (old : Shared) (task : Name) (m : Mark) (new : Shared) : Type 0 where
@@ -159,23 +159,36 @@ abbrev pub TaskWaits : Shared → Name → Name → Shared → Result Given Allo
 TaskWaits old task future new (Ok found) = IsWaitingTask old task future new found
 TaskWaits old task future new (Err e) = TaskMarked old task (mark.Ready work.Eval) new
 
--- the number of the version, where there is one
-abbrev pub IfNewest : Option Version → ℕ → Type 0
-IfNewest None number = ⊥
-IfNewest (Some version) number = number ≡ version.number
-
--- the attempt is undone for a ref that its snapshot does not have; or for want of memory nothing changes
-pub record HasMissed (old : Shared) (owner ref : Name) (new : Shared) (found : Given) : Type 0 where
-  pub row : (x : Unit) (tree : Attempt) → unit_at old.board owner ≡ Some x → named owner old.attempts ≡ Some tree → Missing old owner x tree ref (newest (versions_of old.versions ref)) found new
+-- the attempt is undone for that version of a ref that its snapshot does not have; or for want of memory nothing changes
+pub record HasUndoneFor (old : Shared) (owner ref : Name) (version : ℕ) (new : Shared) (found : Given) : Type 0 where
+  pub row : (x : Unit) (tree : Attempt) → unit_at old.board owner ≡ Some x → named owner old.attempts ≡ Some tree → Aborts old owner x tree ref version found new
   pub claims : GoneEnd old new
 
-abbrev pub MissesOr : Shared → Name → Name → Shared → Result Given AllocError → Type 0
-MissesOr old owner ref new (Ok found) = HasMissed old owner ref new found
-MissesOr old owner ref new (Err e) = IsSameBut old new
+abbrev pub UndoesOr : Shared → Name → Name → ℕ → Shared → Result Given AllocError → Type 0
+UndoesOr old owner ref version new (Ok found) = HasUndoneFor old owner ref version new found
+UndoesOr old owner ref version new (Err e) = IsSameBut old new
 
--- what comes of an attempt whose root is at its end; for want of memory the task is ready to settle
+-- what comes of a ref that the snapshot does not have; or for want of memory nothing changes
+pub record HasMissed (old : Shared) (owner task ref : Name) (new : Shared) (found : Given) : Type 0 where
+  pub row : (x : Unit) (tree : Attempt) → unit_at old.board owner ≡ Some x → named owner old.attempts ≡ Some tree → Missing old owner x task tree ref (newest (versions_of old.versions ref)) found new
+  pub claims : ClaimsEnd (gone_with old.board new.board task) old new
+
+abbrev pub MissesOr : Shared → Name → Name → Name → Shared → Result Given AllocError → Type 0
+MissesOr old owner task ref new (Ok found) = HasMissed old owner task ref new found
+MissesOr old owner task ref new (Err e) = IsSameBut old new
+
+-- what comes of an attempt whose root is at its end; or for want of memory nothing changes
+pub record HasDecidedAt (old : Shared) (owner task : Name) (new : Shared) (found : Given) : Type 0 where
+  pub row : (x : Unit) (tree : Attempt) (ended : TaskEnd) → unit_at old.board owner ≡ Some x → named owner old.attempts ≡ Some tree → end_at tree ≡ Some ended → RootGives old owner x task tree ended found new
+  pub claims : (tree : Attempt) (ended : TaskEnd) → named owner old.attempts ≡ Some tree → end_at tree ≡ Some ended → ClaimsEnd (gone_with old.board new.board task) old new
+
+abbrev pub DecidesOr : Shared → Name → Name → Shared → Result Given AllocError → Type 0
+DecidesOr old owner task new (Ok found) = HasDecidedAt old owner task new found
+DecidesOr old owner task new (Err e) = IsSameBut old new
+
+-- the same, but for want of memory the task is ready to settle
 abbrev pub DecidedOrWaits : Shared → Name → Name → Shared → Result Given AllocError → Type 0
-DecidedOrWaits old owner task new (Ok found) = HasDecided old owner new found
+DecidedOrWaits old owner task new (Ok found) = HasDecidedAt old owner task new found
 DecidedOrWaits old owner task new (Err e) = IsReadied work.Settle old task new
 
 -- what comes of a task that has taken a step

@@ -8,6 +8,7 @@ mod doing;
 mod snapshots;
 mod tasks;
 mod undoing;
+mod waiting;
 
 pub use tasks::{settle_task, step_task};
 pub use undoing::undo;

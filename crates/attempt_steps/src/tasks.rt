@@ -1,9 +1,9 @@
 // How the tasks of attempts take steps.
 ghost use Rattle.std.specs.Prelude.{◌≡◌, IfOk, IfSome, None, OnErr, OnOk, Some, false, is_some};
-ghost use Rattle.std.specs.Option.{option_copied, IsSome};
+ghost use Rattle.std.specs.Option.{option_copied, option_map, IsSome};
 ghost use Rattle.world_steps.specs.Kept.{shared_of, IsSameBut};
-ghost use Rattle.attempt_steps.specs.Deciding.{IsTrying};
-ghost use Rattle.attempt_steps.specs.Tasks.{ComesAfter, DecidedOrWaits, HasForkedTask, HasRoomFor, HasStepped, IfNewest, IsNext, IsNextIfForked, IsOfStep, IsRoomyChild, IsTaskAt, IsTaskIn, IsTaskOf, IsOwned, MissesOr, TaskCame, TaskMarked, TaskWaits};
+ghost use Rattle.attempt_steps.specs.Tasks.{ComesAfter, DecidedOrWaits, DecidesOr, HasForkedTask, HasRoomFor, HasStepped, IsNext, IsNextIfForked, IsOfStep, IsRoomyChild, IsTaskAt, IsTaskIn, IsTaskOf, IsOwned, MissesOr, TaskCame, TaskMarked, TaskWaits, UndoesOr};
+ghost use Rattle.ref_store.specs.declared.version.Version.{Version as Versioned};
 ghost use Rattle.ref_store.specs.Store.{versions_of};
 ghost use Rattle.ref_store.specs.Version.{newest};
 ghost use Rattle.shared_world.specs.rows.Tasks.{outer_of};
@@ -18,6 +18,7 @@ ghost use Rattle.value_core.specs.Named.{named};
 
 use crate::deciding::decide;
 use crate::undoing::abort;
+use crate::waiting::{check_trying, runs_ahead, wait_for_turn};
 use eval_step::Machine;
 use ref_store::Store;
 use serial_model::{Halt, Request};
@@ -216,7 +217,7 @@ fn after_step(
         }
         Stepped::Forked(_) => Ok(add_forked(kept, alloc, task, child)),
         Stepped::WaitJoin(future) => wait_for_task(kept, alloc, task, future),
-        Stepped::NotInSnapshot(name) => miss(kept, alloc, owner, name),
+        Stepped::NotInSnapshot(name) => miss(kept, alloc, owner, task, name),
         Stepped::Finished => {
             mark_task(kept, task, Mark::Finished(Value::Nil));
             Ok(Given::Local)
@@ -248,15 +249,31 @@ fn decide_or_wait(
     requires there { IsSome (named owner.now kept.old.attempts.entries) }
     ensures { DecidedOrWaits (shared_of kept.old) owner.now task.now (shared_of kept.new) result }
 {
-    let decided = decide(kept, alloc, owner);
+    let decided = decide_at(kept, alloc, owner, task);
     if decided.is_err() {
         mark_task(kept, task, Mark::Ready(Work::Settle));
     }
     decided
 }
 
+/// What comes of the attempt, whose root is at its end: it is decided on where its unit stands where the history left it; else the
+/// task waits until that does.
+fn decide_at(kept: &mut Kept, alloc: Global, owner: &Name, task: &Name) -> Result<Given, AllocError>
+    requires stands { Stands (shared_of kept.old) }
+    requires going { kept.old.end ≡ None }
+    requires at { IfSome (named owner.now kept.old.attempts.entries) (IsTaskIn (shared_of kept.old) owner.now task.now) }
+    requires there { IsSome (named owner.now kept.old.attempts.entries) }
+    ensures { DecidesOr (shared_of kept.old) owner.now task.now (shared_of kept.new) result }
+{
+    if runs_ahead(kept, owner) {
+        return wait_for_turn(kept, alloc, owner, task);
+    }
+    check_trying(kept, owner)?;
+    decide(kept, alloc, owner)
+}
+
 /// The task has that mark. It takes no memory.
-fn mark_task(kept: &mut Kept, task: &Name, mark: Mark)
+pub(crate) fn mark_task(kept: &mut Kept, task: &Name, mark: Mark)
     requires there { IsTaskAt kept.old.units task.now }
     requires stays { says_dropped mark ≡ false }
     requires can_wait { CanWait kept.old.units mark }
@@ -324,25 +341,52 @@ fn name_with_place(kept: &Kept, alloc: Global, name: &Name) -> Result<Name, Allo
     Ok(same)
 }
 
-/// The attempt is undone, since the store has a version of the ref that the snapshot does not have. Where it has none, of
-/// which no run knows, it is taken for want of memory.
-fn miss(kept: &mut Kept, alloc: Global, owner: &Name, name: Name) -> Result<Given, AllocError>
+/// The attempt is undone, where the store has a version of the ref that the snapshot does not have. Where it has none, the unit runs
+/// ahead and made the ref, and the task waits until the unit holds nothing. What no run can meet is taken for want of memory.
+fn miss(
+    kept: &mut Kept,
+    alloc: Global,
+    owner: &Name,
+    task: &Name,
+    name: Name,
+) -> Result<Given, AllocError>
     requires stands { Stands (shared_of kept.old) }
     requires going { kept.old.end ≡ None }
-    requires attempt { IsTrying (shared_of kept.old) owner.now }
-    ensures { MissesOr (shared_of kept.old) owner.now name (shared_of kept.new) result }
+    requires at { IfSome (named owner.now kept.old.attempts.entries) (IsTaskIn (shared_of kept.old) owner.now task.now) }
+    requires there { IsSome (named owner.now kept.old.attempts.entries) }
+    ensures { MissesOr (shared_of kept.old) owner.now task.now name (shared_of kept.new) result }
 {
-    let number = newest_number(kept, &name)?;
+    match newest_number(kept, &name) {
+        Some(number) => undo_for(kept, alloc, owner, name, number),
+        None if runs_ahead(kept, owner) => wait_for_turn(kept, alloc, owner, task),
+        None => Err(AllocError),
+    }
+}
+
+/// The attempt is undone for that version of the ref.
+fn undo_for(
+    kept: &mut Kept,
+    alloc: Global,
+    owner: &Name,
+    name: Name,
+    number: u64,
+) -> Result<Given, AllocError>
+    requires stands { Stands (shared_of kept.old) }
+    requires going { kept.old.end ≡ None }
+    requires there { IsSome (named owner.now kept.old.attempts.entries) }
+    ensures { UndoesOr (shared_of kept.old) owner.now name number (shared_of kept.new) result }
+{
+    check_trying(kept, owner)?;
     abort(kept, alloc, owner, name, number)
 }
 
-/// The number of the newest version of the ref.
-fn newest_number(kept: &Kept, name: &Name) -> Result<u64, AllocError>
-    ensures { IfOk result (λ number. IfNewest (newest (versions_of kept.now.store.versions name.now)) number) }
+/// The number of the newest version of the ref. None exactly where it has none.
+fn newest_number(kept: &Kept, name: &Name) -> Option<u64>
+    ensures { result ≡ option_map (λ (v : Versioned). v.number) (newest (versions_of kept.now.store.versions name.now)) }
 {
     match kept.store.newest(name) {
-        Some(version) => Ok(version.number),
-        None => Err(AllocError),
+        Some(version) => Some(version.number),
+        None => None,
     }
 }
 

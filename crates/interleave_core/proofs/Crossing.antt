@@ -1,21 +1,23 @@
 -- The world may be moved into a thread.
 use denote.Param.Send.{IsSend, IsSync, sendable}
-use denote.Param.SendFields.{as_row_sync, declared_sync, variants_sync}
+use denote.Param.SendFields.{as_row_sync, declared_send, declared_sync, variants_sync}
 use Rattle.std.proofs.Crossing.{crosses}
 use Rattle.std.proofs.MapsCrossing as maps
-use Rattle.actor_mails.proofs.Crossing.{mails_send}
+use Rattle.actor_mailbox.specs.contracts.message.Message as message
+use Rattle.actor_mails.proofs.Crossing.{mails_send, message_send}
 use Rattle.core_syntax.proofs.program.Program.TheSendSync as program
 use Rattle.eval_step.proofs.Crossing.{machine_send}
 use Rattle.interleave_core.specs.contracts.world.World as world
 use Rattle.piece_table.proofs.piece_table.PieceTable.TheSendSync as table
 use Rattle.ref_store.specs.contracts.store.Store as store
 use Rattle.ref_store.specs.contracts.version.Version as version
-use Rattle.serial_model.proofs.Crossing.{fields}
+use Rattle.serial_model.proofs.Crossing.{answer_send, fields, request_send}
 use Rattle.serial_model.proofs.history.History.TheSendSync as history
 use Rattle.serial_model.proofs.limits.Limits.TheSendSync as limits
 use Rattle.serial_model.specs.contracts.effect.Effect as effect
 use Rattle.serial_model.specs.contracts.effect.What as what
 use Rattle.serial_model.specs.contracts.end.End as end
+use Rattle.serial_model.specs.contracts.entry.Entry as entry
 use Rattle.shared_chain.proofs.Crossing.{link_send, link_sync, below_send}
 use Rattle.shared_chain.specs.contracts.chain.Chain as chain
 use Rattle.shared_map.proofs.Crossing.{node_send, node_sync, side_send, side_sync, value_map_send}
@@ -30,6 +32,9 @@ use Rattle.task_fork_join.specs.contracts.task_end.TaskEnd as task_end
 use Rattle.task_fork_join.specs.contracts.tree.Tree as tree
 use Rattle.task_log.specs.contracts.log.TaskLog as own_log
 use Rattle.task_log.specs.contracts.shared_list.SharedList as shared_list
+use Rattle.tentative_turn.specs.contracts.held.Held as held
+use Rattle.tentative_turn.specs.contracts.held_effect.HeldEffect as held_effect
+use Rattle.turns_ahead.specs.contracts.turn_ahead.TurnAhead as turn_ahead
 use Rattle.txn_snapshot.specs.contracts.log.TaskLog as log
 use Rattle.txn_snapshot.specs.contracts.reads.Reads as reads
 use Rattle.txn_snapshot.specs.contracts.view.View as view
@@ -44,7 +49,7 @@ use Rattle.unit_table.specs.contracts.units.Units as units
 use Rattle.value_core.proofs.Crossing.{name_send, value_send, value_sync, values_send}
 use Rattle.value_core.proofs.name.Name.TheSendSync as name_crosses
 use Rattle.value_core.specs.contracts.name.Name as name
-use Rattle.value_core.specs.contracts.places.Places as owners
+use Rattle.value_core.specs.contracts.places.Places as places_of
 use Rattle.value_core.specs.contracts.shared.Shared as shared
 use Rattle.value_core.specs.contracts.value.Value as value
 use Rattle.wait_lists.proofs.wait_lists.WaitLists.TheSendSync as waits
@@ -146,14 +151,66 @@ task_send = search (log_send, known_send, stage_send, fields) depth 60 fits 2000
 tree_send : IsSend tree.the_row
 tree_send = search (name_send, task_send, reads_send, task_end_send, maps.crosses, fields) depth 60 fits 20000
 
-owners_send : IsSend (owners.the_row name.the_row)
+owners_send : IsSend (places_of.the_row name.the_row)
 owners_send = search (name_send, maps.crosses, fields) depth 60 fits 20000
+
+taken_send : IsSend (places_of.the_row message.the_row)
+taken_send = search (name_send, message_send, maps.crosses, fields) depth 60 fits 20000
+
+entry_send : IsSend entry.the_row
+entry_send = search (name_send, fields) depth 60 fits 20000
+
+held_effect_send : IsSend held_effect.the_row
+held_effect_send = search (entry_send, request_send, answer_send, fields) depth 60 fits 20000
+
+held_send : IsSend held.the_row
+held_send = search (name_send, held_effect_send, fields) depth 60 fits 20000
+
+turn_ahead_send : IsSend turn_ahead.the_row
+turn_ahead_send = search (held_send, becoming_send, fields) depth 60 fits 20000
 
 end_send : IsSend end.the_row
 end_send = search (name_send, fields) depth 60 fits 20000
 
+-- field by field, as they stand: one search of them all finds no end
 kept_send : IsSend kept.the_row
-kept_send = search (name_send, units_send, store_send, mails_send, tree_send, owners_send, end_send, program.the_send, program.the_sync, history.the_send, limits.the_send, maps.crosses, fields) depth 60 fits 20000
+kept_send = declared_send kept.the_type (
+  search (program.the_send, program.the_sync, fields) depth 60 fits 20000,
+  (
+    search (limits.the_send, fields) depth 60 fits 20000,
+    (
+      search (history.the_send, fields) depth 60 fits 20000,
+      (
+        search (store_send, fields) depth 60 fits 20000,
+        (
+          search (units_send, fields) depth 60 fits 20000,
+          (
+            search (mails_send, fields) depth 60 fits 20000,
+            (
+              search (taken_send, fields) depth 60 fits 20000,
+              (
+                search (name_send, turn_ahead_send, maps.crosses, fields) depth 60 fits 20000,
+                (
+                  search (name_send, tree_send, maps.crosses, fields) depth 60 fits 20000,
+                  (
+                    search (owners_send, fields) depth 60 fits 20000,
+                    (
+                      search fields depth 60 fits 20000,
+                      (
+                        search fields depth 60 fits 20000,
+                        (search (end_send, fields) depth 60 fits 20000, tt),
+                      ),
+                    ),
+                  ),
+                ),
+              ),
+            ),
+          ),
+        ),
+      ),
+    ),
+  ),
+)
 
 pub world_send : IsSend world.the_row
 world_send = search (kept_send, end_send, fields) depth 60 fits 20000

@@ -2,4 +2,3 @@ pub mod Given
 pub mod Lending
 pub mod Returning
 pub mod Stale
-pub mod Waits

@@ -90,29 +90,30 @@ ends old u x tree (end.Value v) found new r = ap is_stale r.found_is
 ends old u x tree (end.Fault code at) found new r = ap is_stale r.found_is
 ends old u x tree end.Spent found new r = ap is_stale r.found_is
 
-root : (old : Shared) (u : Name) (x : Unit) (tree : Attempt) (e : TaskEnd) (found : Given) (new : Shared) → RootGives old u x tree e found new → is_stale found ≡ false
-root old u x tree e found new (row.valid level all r) = ends old u x tree e found new r
-root old u x tree e found new (row.conflicts level r) = ap is_stale r.aborts.found_is
+root : (old : Shared) (u : Name) (x : Unit) (task : Name) (tree : Attempt) (e : TaskEnd) (found : Given) (new : Shared) → RootGives old u x task tree e found new → is_stale found ≡ false
+root old u x task tree e found new (row.valid level all r) = ends old u x tree e found new r
+root old u x task tree e found new (row.conflicts level r) = ap is_stale r.aborts.found_is
+root old u x task tree e found new (row.waits r) = ap is_stale r.found_is
 
-misses : (old : Shared) (u : Name) (x : Unit) (tree : Attempt) (ref : Name) (version : Option Version) (found : Given) (new : Shared) → Missing old u x tree ref version found new → is_stale found ≡ false
-misses old u x tree ref None found new r = absurd r
-misses old u x tree ref (Some version) found new r = ap is_stale r.found_is
+misses : (old : Shared) (u : Name) (x : Unit) (task : Name) (tree : Attempt) (ref : Name) (version : Option Version) (found : Given) (new : Shared) → Missing old u x task tree ref version found new → is_stale found ≡ false
+misses old u x task tree ref None found new r = ap is_stale r.found_is
+misses old u x task tree ref (Some version) found new r = ap is_stale r.found_is
 
 steps : (old : Shared) (u : Name) (x : Unit) (task : Name) (tree : Attempt) (went : Stepped) (found : Given) (new : Shared) → StepGives old u x task tree went found new → is_stale found ≡ false
 steps old u x task tree stepped_as.Now found new r = ap is_stale r.0
 steps old u x task tree (stepped_as.Forked child) found new r = ap is_stale r.0
 steps old u x task tree (stepped_as.WaitJoin future) found new r = ap is_stale r.0
-steps old u x task tree (stepped_as.NotInSnapshot ref) found new r = misses old u x tree ref (newest (versions_of old.versions ref)) found new r
+steps old u x task tree (stepped_as.NotInSnapshot ref) found new r = misses old u x task tree ref (newest (versions_of old.versions ref)) found new r
 steps old u x task tree stepped_as.Finished found new r = ap is_stale r.0
 
 after : (base : Shared) (u : Name) (x : Unit) (task : Name) (tree : Attempt) (went : Stepped) (ended : Option TaskEnd) (found : Given) (new : Shared) → AfterStep base u x task tree went ended found new → is_stale found ≡ false
 after base u x task tree went None found new r = steps base u x task tree went found new r
-after base u x task tree went (Some e) found new r = root base u x tree e found new r
+after base u x task tree went (Some e) found new r = root base u x task tree e found new r
 
 task-row : (old : Shared) (u : Name) (x : Unit) (task : Name) (tree : Attempt) (ended : Option TaskEnd) (machine : Option Evaluation) (found : Given) (new : Shared) → TaskGives old u x task tree ended machine found new → is_stale found ≡ false
 task-row old u x task tree None (Some machine) found new r = after _ u x task r.after r.went (end_at r.after) found new r.comes
 task-row old u x task tree None None found new r = absurd r
-task-row old u x task tree (Some ended) machine found new r = root old u x tree ended found new r
+task-row old u x task tree (Some ended) machine found new r = root old u x task tree ended found new r
 
 -- what an actor comes to
 takes : (old : Shared) (a : Name) (actor : ActorState) (m : Message) (rest : List Message) (behaviour : Behaviour) (full : Bool) (found : Given) (new : Shared) → TakesIfAllowed old a actor m rest behaviour full found new → is_stale found ≡ false

@@ -15,8 +15,7 @@ use Rattle.shared_world.specs.rows.Turns.{GaveActor}
 use Rattle.shared_world.specs.Shared.{Shared, finished_by}
 use Rattle.unit_table.specs.Board.{Board, actor_at, unit_at}
 use Rattle.unit_table.specs.declared.unit.Unit.{Unit}
-use Rattle.unit_table.specs.Piece.{says_ready}
-use Rattle.value_core.specs.Named.{Name}
+use Rattle.value_core.specs.Named.{Name, named}
 
 -- it evaluates the same as the machine that is kept, has the same answers, and was moved to where that one halts
 pub record IsMovedOn (table : Table) (kept : Evaluation) (m : Moved) : Type 0 where
@@ -38,15 +37,14 @@ abbrev pub HasHalted : Table → Option Evaluation → Option Halt → Type 0
 HasHalted table (Some machine) (Some h) = HasHaltedAt table machine h
 HasHalted table _ _ = ⊤
 
--- a unit that nothing can be done with now
-pub record IsWaitingUnit (b : Board) (owner : Name) : Type 0 where
-  pub unit : Unit
-  pub there : unit_at b owner ≡ Some unit
-  pub waits : says_ready unit.mark ≡ false
+-- a unit stands under the name, where the history left it
+pub record IsLevelUnit (s : Shared) (name : Name) : Type 0 where
+  pub some : IsSome (unit_at s.board name)
+  pub level : named name s.aheads ≡ None
 
 -- a unit stands under the name, a task of the attempt of that unit, or an actor
 abbrev pub IsStanderOf : Shared → Name → Stander → Type 0
-IsStanderOf s name stander.Unit = IsSome (unit_at s.board name)
+IsStanderOf s name stander.Unit = IsLevelUnit s name
 IsStanderOf s name (stander.Task owner) = IsOwned s name owner
 IsStanderOf s name stander.Actor = IsSome (actor_at s.board name)
 

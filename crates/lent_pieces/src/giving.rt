@@ -5,14 +5,14 @@ ghost use Rattle.std.specs.Arc.{arc_value};
 ghost use Rattle.eval_step.specs.Evaluation.{IsOf};
 ghost use Rattle.lent_pieces.specs.Back.{GivesBack};
 ghost use Rattle.lent_pieces.specs.Claims.{FindsLive, IsAbandoned};
-ghost use Rattle.attempt_steps.specs.Deciding.{IsTrying};
-ghost use Rattle.lent_pieces.specs.Giving.{GivesTo, HasHalted, IsMovedOn, IsOpenUnit, IsStanderOf, IsWaitingUnit};
+ghost use Rattle.lent_pieces.specs.Giving.{GivesTo, HasHalted, IsMovedOn, IsOpenUnit, IsStanderOf};
 ghost use Rattle.world_steps.specs.Kept.{shared_of};
 ghost use Rattle.attempt_steps.specs.Tasks.{IsOwned, IsTaskAt};
+ghost use Rattle.attempt_steps.specs.Undoing.{HasAttempt};
 ghost use Rattle.shared_world.specs.Returned.{IsLive, IsSameMachine};
 ghost use Rattle.shared_world.specs.Shared.{kept_machine};
 ghost use Rattle.shared_world.specs.Stands.{Stands};
-ghost use Rattle.unit_table.specs.Piece.{says_ready};
+ghost use Rattle.unit_table.specs.Board.{unit_at};
 ghost use Rattle.value_core.specs.Named.{named};
 ghost use Rattle.world_claim.specs.Lent.{IsMachineOf};
 ghost use Rattle.world_claim.specs.Run.{IsRunOf, returned_of};
@@ -25,7 +25,7 @@ use eval_step::Machine;
 use serial_model::Halt;
 use shared_world::Given;
 use std::alloc::{AllocError, Global};
-use unit_table::{Mark, Piece};
+use unit_table::Piece;
 use value_core::Name;
 use value_core::name_map::find;
 use world_claim::Parts;
@@ -184,10 +184,29 @@ fn stander_of(kept: &Kept, alloc: Global, name: &Name) -> Result<Stander, AllocE
     ensures { IfOk result (IsStanderOf (shared_of kept.now) name.now) }
 {
     match kept.units.piece(name) {
-        Some(Piece::Unit(_)) => Ok(Stander::Unit),
+        Some(Piece::Unit(_)) => level_unit(kept, name),
         Some(Piece::Task(_)) => Ok(Stander::Task(owner_of(kept, alloc, name)?)),
         Some(Piece::Actor(_)) => Ok(Stander::Actor),
         None => Err(AllocError),
+    }
+}
+
+/// A unit that stands where the history left it. One that runs ahead, which there is none of, is taken for want of memory.
+fn level_unit(kept: &Kept, name: &Name) -> Result<Stander, AllocError>
+    requires { IsSome (unit_at kept.now.units name.now) }
+    ensures { IfOk result (IsStanderOf (shared_of kept.now) name.now) }
+{
+    check_level(kept, name)?;
+    Ok(Stander::Unit)
+}
+
+/// No turn of that name runs ahead.
+fn check_level(kept: &Kept, name: &Name) -> Result<(), AllocError>
+    ensures { OnOk result (named name.now (shared_of kept.now).aheads ≡ None) }
+{
+    match find(&kept.aheads, name) {
+        Some(_) => Err(AllocError),
+        None => Ok(()),
     }
 }
 
@@ -198,40 +217,20 @@ fn owner_of(kept: &Kept, alloc: Global, task: &Name) -> Result<Name, AllocError>
 {
     match kept.owners.get(task) {
         Some(owner) => {
-            check_trying(kept, owner)?;
+            check_attempt(kept, owner)?;
             owner.copy(alloc)
         }
         None => Err(AllocError),
     }
 }
 
-/// The unit has an attempt, and no claim is on it.
-fn check_trying(kept: &Kept, owner: &Name) -> Result<(), AllocError>
-    ensures { OnOk result (IsTrying (shared_of kept.now) owner.now) }
-{
-    check_waiting(kept, owner)?;
-    check_attempt(kept, owner)?;
-    kept.units.lent_are_ready();
-    Ok(())
-}
-
-/// The unit is there, and waits.
-fn check_waiting(kept: &Kept, owner: &Name) -> Result<(), AllocError>
-    ensures { OnOk result (IsWaitingUnit kept.now.units owner.now) }
-{
-    match kept.units.unit(owner) {
-        Some(unit) => check_waits(&unit.mark),
-        None => Err(AllocError),
-    }
-}
-
-/// The unit has an attempt.
+/// The unit is there, and has an attempt.
 fn check_attempt(kept: &Kept, owner: &Name) -> Result<(), AllocError>
-    ensures { OnOk result (IsSome (named owner.now kept.now.attempts.entries)) }
+    ensures { OnOk result (HasAttempt (shared_of kept.now) owner.now) }
 {
-    match find(&kept.attempts, owner) {
-        Some(_) => Ok(()),
-        None => Err(AllocError),
+    match (kept.units.unit(owner), find(&kept.attempts, owner)) {
+        (Some(_), Some(_)) => Ok(()),
+        _ => Err(AllocError),
     }
 }
 
@@ -259,16 +258,6 @@ fn run_on_to(alloc: Global, mut machine: Machine, program: &Program) -> Result<M
 {
     let halt = machine.run_to_ask(alloc, program)?;
     Ok(Moved { machine, halt })
-}
-
-/// The mark says that the piece waits.
-fn check_waits(mark: &Mark) -> Result<(), AllocError>
-    ensures { OnOk result (says_ready mark.now ≡ false) }
-{
-    match mark {
-        Mark::Waiting(_) => Ok(()),
-        Mark::Ready(_) | Mark::Resting | Mark::Finished(_) | Mark::Dropped => Err(AllocError),
-    }
 }
 
 /// Drops the parts of a result.

@@ -216,6 +216,7 @@ module _ (s : Shared) (st : Stands s) where
       attempts = λ going u tree there. cc;
       numbers = st.numbers;
       aheads = st.aheads;
+      sent = st.sent;
     }
 
     -- and so are their marks

@@ -19,6 +19,10 @@ NoneOut s = (ticket : Ticket) → claimed s ticket ≡ None
 abbrev pub NoneTried : Named Attempt → Type 0
 NoneTried attempts = (u : Name) → named u attempts ≡ None
 
+-- no turn runs ahead of the history
+abbrev pub NoneAhead : Shared → Type 0
+NoneAhead s = (u : Name) → named u s.aheads ≡ None
+
 -- the run is over with that end; no attempt is there, and no claim is out
 pub record IsFinished (s : Shared) (end : End) : Type 0 where
   pub over : IsOverWith s end

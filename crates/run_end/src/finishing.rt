@@ -1,7 +1,7 @@
 // How one thread ends a run.
 ghost use Rattle.std.specs.Prelude.{◌≡◌, [], IfOk, None, OnOk, Some, false, true};
 ghost use Rattle.std.specs.Option.{option_and_then};
-ghost use Rattle.run_end.specs.Finishing.{AreEnding, GoesOn, IsEnded, IsFinished, IsNextOr, IsOverOr, IsTriedOr, NoneOut, NoneTried};
+ghost use Rattle.run_end.specs.Finishing.{AreEnding, GoesOn, IsEnded, IsFinished, IsNextOr, IsOverOr, IsTriedOr, NoneAhead, NoneOut, NoneTried};
 ghost use Rattle.run_end.specs.InTurn.{GoesInTurn, IsDue, IsLeft, IsWalked, IsWalkedOr, number_at};
 ghost use Rattle.run_end.specs.Over.{IsOverWith};
 ghost use Rattle.shared_world.specs.Later.{IsLater};
@@ -167,10 +167,22 @@ fn settle_due(
     ensures goes { GoesOn (shared_of kept.old) (shared_of kept.new) }
     ensures walked { IfOk result (IsWalkedOr (shared_of kept.new)) }
 {
+    check_level(kept)?;
     let left = left_of(&kept.units, alloc, name, passed)?;
     let machine = copy_machine(kept, alloc, name)?;
     let given = give_to(kept, alloc, name, machine, None)?;
     if waits(given) { Ok(None) } else { Ok(left) }
+}
+
+/// No turn runs ahead of the history. Where one does, which there is none of, it is taken for want of memory.
+fn check_level(kept: &Kept) -> Result<(), AllocError>
+    ensures { OnOk result (NoneAhead (shared_of kept.now)) }
+{
+    if kept.aheads.is_empty() {
+        Ok(())
+    } else {
+        Err(AllocError)
+    }
 }
 
 /// Whether the piece waits.

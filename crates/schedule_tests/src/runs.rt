@@ -17,7 +17,7 @@ use std::test::Fail;
 use value_core::Text;
 
 /// The program of a source.
-fn program_of(alloc: Global, source: &str) -> Result<Program, AllocError> {
+pub(crate) fn program_of(alloc: Global, source: &str) -> Result<Program, AllocError> {
     let forms = read(alloc, source.as_bytes()).map_err(|_| AllocError)?;
     check(alloc, &forms).map_err(|_| AllocError)
 }

@@ -29,7 +29,7 @@ use Rattle.shared_world.specs.Returned.{Returned, halt_of}
 use Rattle.shared_world.specs.rows.Attempts.{Aborts, Begins, IsWithout}
 use Rattle.shared_world.specs.rows.Pieces.{EndsBy, Settles}
 use Rattle.shared_world.specs.rows.Tasks as row
-use Rattle.shared_world.specs.rows.Tasks.{AfterStep, EndGives, Missing, RootGives, StepGives, TaskGives, outer_of}
+use Rattle.shared_world.specs.rows.Tasks.{AfterStep, EndGives, Missing, RootGives, StepGives, TaskGives, WaitsForTurn, outer_of}
 use Rattle.shared_world.specs.rows.Turns.{GaveActor, TakesIfAllowed}
 use Rattle.shared_world.specs.rows.Units.{Becomes, Derefs, Finishes, ForksIfAllowed, Joins, Selves, Tries, UnitGives}
 use Rattle.shared_world.specs.Shared.{Shared, actor_of, finished_at, is_going, ref_now, unit_state}
@@ -131,29 +131,33 @@ module _ (base : Shared) (numbers : IsAbove (suc (length base.history)) base.ver
   end-turn (end.Fault code at) r = ends-turn base _ _ found new r
   end-turn end.Spent r = ends-turn base _ _ found new r
 
-  root-turn : (e : TaskEnd) → RootGives base u x tree e found new → Turnover base found new
-  root-turn e (row.valid level all r) = end-turn e r
-  root-turn e (row.conflicts level r) =
+  waits-turn : (task : Name) → WaitsForTurn base u task found new → Turnover base found new
+  waits-turn task r = same (none-by found _ r.found_is (λ w. refl)) (ap (λ (s : Shared). s.attempts) r.marked.others)
+
+  root-turn : (task : Name) (e : TaskEnd) → RootGives base u x task tree e found new → Turnover base found new
+  root-turn task e (row.valid level all r) = end-turn e r
+  root-turn task e (row.conflicts level r) =
       let changed = r.first.changed in
       let above = changed.above in
       let number = changed.number_is in
       let within = newest-within base numbers r.first.read changed.version changed.newest in
       aborts-turn r.ref r.conflict.version above (omega (arith, number, within)) r.aborts
+  root-turn task e (row.waits r) = waits-turn task r
 
-  missing-turn : (ref : Name) (version : Option Version) → newest (versions_of base.versions ref) ≡ version → snapshot_of base.versions tree.snapshot ref ≡ None → Missing base u x tree ref version found new → Turnover base found new
-  missing-turn ref None is none r = absurd r
-  missing-turn ref (Some version) is none r = aborts-turn ref version.number (newest-above tree.snapshot (versions_of base.versions ref) version none is) (newest-within base numbers ref version is) r
+  missing-turn : (task ref : Name) (version : Option Version) → newest (versions_of base.versions ref) ≡ version → snapshot_of base.versions tree.snapshot ref ≡ None → Missing base u x task tree ref version found new → Turnover base found new
+  missing-turn task ref None is none r = waits-turn task r
+  missing-turn task ref (Some version) is none r = aborts-turn ref version.number (newest-above tree.snapshot (versions_of base.versions ref) version none is) (newest-within base numbers ref version is) r
 
   step-turn : (task : Name) (went : Stepped) → ((ref : Name) → went ≡ stepped_as.NotInSnapshot ref → snapshot_of base.versions tree.snapshot ref ≡ None) → StepGives base u x task tree went found new → Turnover base found new
   step-turn task stepped_as.Now missing r = same (none-by found _ r.0 (λ w. refl)) (ap (λ (s : Shared). s.attempts) r.1.others)
   step-turn task (stepped_as.Forked child) missing r = same (none-by found _ r.0 (λ w. refl)) (ap (λ (s : Shared). s.attempts) r.1.steps.others)
   step-turn task (stepped_as.WaitJoin future) missing r = same (none-by found _ r.0 (λ w. refl)) (ap (λ (s : Shared). s.attempts) r.1.others)
-  step-turn task (stepped_as.NotInSnapshot ref) missing r = missing-turn ref (newest (versions_of base.versions ref)) refl (missing ref refl) r
+  step-turn task (stepped_as.NotInSnapshot ref) missing r = missing-turn task ref (newest (versions_of base.versions ref)) refl (missing ref refl) r
   step-turn task stepped_as.Finished missing r = same (none-by found _ r.0 (λ w. refl)) (ap (λ (s : Shared). s.attempts) r.1.others)
 
   after-turn : (task : Name) (went : Stepped) → ((ref : Name) → went ≡ stepped_as.NotInSnapshot ref → snapshot_of base.versions tree.snapshot ref ≡ None) → (ended : Option TaskEnd) → AfterStep base u x task tree went ended found new → Turnover base found new
   after-turn task went missing None r = step-turn task went missing r
-  after-turn task went missing (Some e) r = root-turn e r
+  after-turn task went missing (Some e) r = root-turn task e r
 
 -- ---- what comes of that for a unit's attempt
 -- the counts, and that a version is late
@@ -312,7 +316,7 @@ module _ (old : Shared) (st : Stands old) (on_going : old.end ≡ None) (u : Nam
           ∙ missing-none (snapshot_of old.versions tree.snapshot) task r.moved (outer_of old.board (halt_of old.setup.program machine)) ref tree r.after kept some (halt_of old.setup.program machine)
           (subst (λ w. IsStep (snapshot_of old.versions tree.snapshot) task r.moved (outer_of old.board (halt_of old.setup.program machine)) (halt_of old.setup.program machine) tree r.after w) so r.step)
   task-ages None None is r = absurd r
-  task-ages (Some ended) machine is r = ages old new found grows (root-turn old st.numbers u x tree there began found new ended r)
+  task-ages (Some ended) machine is r = ages old new found grows (root-turn old st.numbers u x tree there began found new task ended r)
 
 takes-turn : (old : Shared) (a : Name) (actor : _) (m : _) (rest : _) (behaviour : _) (full : Bool) (found : Given) (new : Shared) → TakesIfAllowed old a actor m rest behaviour full found new → Turnover old found new
 takes-turn old a actor m rest behaviour true found new r = ends-turn old _ _ found new r

@@ -123,9 +123,10 @@ module _ (old : Shared) where
     end-gives u x tree (end.Fault failed at) found new row = ends base u _ found new setup history row
     end-gives u x tree end.Spent found new row = ends base u _ found new setup history row
 
-    root-gives : (u : Name) (x : Unit) (tree : Attempt) (ended : TaskEnd) (found : Given) (new : Shared) → RootGives base u x tree ended found new → Appends (settled_by found) old new
-    root-gives u x tree ended found new (tasks.valid level unchanged row) = end-gives u x tree ended found new row
-    root-gives u x tree ended found new (tasks.conflicts level row) = aborts u x tree row.ref _ found new row.aborts
+    root-gives : (u : Name) (x : Unit) (task : Name) (tree : Attempt) (ended : TaskEnd) (found : Given) (new : Shared) → RootGives base u x task tree ended found new → Appends (settled_by found) old new
+    root-gives u x task tree ended found new (tasks.valid level unchanged row) = end-gives u x tree ended found new row
+    root-gives u x task tree ended found new (tasks.conflicts level row) = aborts u x tree row.ref _ found new row.aborts
+    root-gives u x task tree ended found new (tasks.waits row) = marked task found base new (ap settled_by row.found_is) refl refl row.marked.others
 
     step-gives : (u : Name) (x : Unit) (task : Name) (tree : Attempt) (went : Stepped) (found : Given) (new : Shared) → StepGives base u x task tree went found new → Appends (settled_by found) old new
     step-gives u x task tree stepped.Now found new row = marked task found base new (ap settled_by row.0) refl refl row.1.others
@@ -133,21 +134,21 @@ module _ (old : Shared) where
     step-gives u x task tree (stepped.WaitJoin future) found new row = marked task found base new (ap settled_by row.0) refl refl row.1.others
     step-gives u x task tree (stepped.NotInSnapshot ref) found new row = on (newest (versions_of base.versions ref)) row
       where
-        on : (version : Option Version) → Missing base u x tree ref version found new → Appends (settled_by found) old new
-        on None row = absurd row
+        on : (version : Option Version) → Missing base u x task tree ref version found new → Appends (settled_by found) old new
+        on None row = marked task found base new (ap settled_by row.found_is) refl refl row.marked.others
         on (Some version) row = aborts u x tree ref _ found new row
     step-gives u x task tree stepped.Finished found new row = marked task found base new (ap settled_by row.0) refl refl row.1.others
 
     after-step : (u : Name) (x : Unit) (task : Name) (tree : Attempt) (went : Stepped) (ended : Option TaskEnd) (found : Given) (new : Shared) → AfterStep base u x task tree went ended found new
         → Appends (settled_by found) old new
     after-step u x task tree went None found new row = step-gives u x task tree went found new row
-    after-step u x task tree went (Some ended) found new row = root-gives u x tree ended found new row
+    after-step u x task tree went (Some ended) found new row = root-gives u x task tree ended found new row
 
   pub task-gives : (u : Name) (x : Unit) (task : Name) (tree : Attempt) (ended : Option TaskEnd) (machine : Option Evaluation) (found : Given) (new : Shared) → TaskGives old u x task tree ended machine found new
       → Appends (settled_by found) old new
   task-gives u x task tree None (Some machine) found new row = after-step _ refl refl u x task row.after row.went _ found new row.comes
   task-gives u x task tree None None found new row = absurd row
-  task-gives u x task tree (Some ended) machine found new row = root-gives old refl refl u x tree ended found new row
+  task-gives u x task tree (Some ended) machine found new row = root-gives old refl refl u x task tree ended found new row
 
   -- what an actor comes to
   pub actor-gives : (a : Name) (actor : ActorState) (m : Message) (rest : List Message) (behaviour : Behaviour) (full : Bool) (found : Given) (new : Shared) → TakesIfAllowed old a actor m rest behaviour full found new

@@ -1,5 +1,5 @@
 -- An attempt that begins keeps what is kept standing.
-use Rattle.std.proofs.Common.{◌≡◌, ◌∙◌, ◌≤◌, Bool, true, false, cond, length, le_refl, List, [], refl, sym, ap, subst}
+use Rattle.std.proofs.Common.{◌≡◌, ◌∙◌, ◌≤◌, Bool, true, false, cond, length, le_refl, List, [], refl, sym, ap, ap₂, subst}
 use Rattle.std.specs.Option.{option_and_then, option_map}
 use Rattle.std.specs.Prelude.{Option, None, Some}
 use Rattle.core_syntax.specs.declared.node_id.NodeId.{NodeId}
@@ -14,18 +14,19 @@ use Rattle.shared_world.proofs.Standing.{now-is-newest, under-way}
 use Rattle.shared_world.proofs.States.{SameStates, machines-put, machines-set, task-put, unit-set}
 use Rattle.shared_world.specs.declared.given.Given.{Given}
 use Rattle.shared_world.specs.rows.Attempts.{BeginsMarked}
-use Rattle.shared_world.specs.Seen.{AttemptSeen, IsSeenAttempt, live_with}
+use Rattle.shared_world.specs.Seen.{AttemptSeen, IsSeenAttempt, done_in, live_with}
 use Rattle.shared_world.specs.Shared.{Shared, finished_at, is_going, state_at, unit_state}
 use Rattle.shared_world.specs.Stands.{IsMachine, IsUnderWay, Stands, start_of}
 use Rattle.task_fork_join.proofs.Begins.{new_attempts_run}
 use Rattle.task_fork_join.specs.Attempt.{Attempt}
 use Rattle.txn_snapshot.specs.SnapshotAnswer.{snapshot_of}
+use Rattle.txn_snapshot.specs.SnapshotTask.{SnapshotTask}
 use Rattle.unit_table.specs.declared.mark.Mark.{Mark}
 use Rattle.unit_table.specs.declared.mark.Mark.TheVariants as mark
 use Rattle.unit_table.specs.declared.mark.Work.TheVariants as work
 use Rattle.unit_table.specs.declared.piece.Piece.TheVariants as piece
 use Rattle.unit_table.specs.declared.unit.Unit.{Unit}
-use Rattle.value_core.proofs.NamedLaws.{named-with_named, same_name-equal}
+use Rattle.value_core.proofs.NamedLaws.{named-with_named, same_name-equal, same_name-itself}
 use Rattle.value_core.specs.declared.value.Value.{Value}
 use Rattle.value_core.specs.Named.{Name, named, same_name, with_named}
 use Rattle.value_core.specs.Place.{Spot}
@@ -77,6 +78,7 @@ module _ (old : Shared) (st : Stands old) (u : Name) (x : Unit) (on_going : old.
     attempts = λ go v tree there. way v tree (same_name v u) refl (sym (named-with_named v u r.tree old.attempts) ∙ there);
     numbers = st.numbers;
     aheads = λ v h leads. ahead-still old.board new.board v h (same v) (st.aheads v h leads);
+    sent = st.sent;
   })
     where
       going : is_going old.end ≡ true
@@ -115,7 +117,7 @@ module _ (old : Shared) (st : Stands old) (u : Name) (x : Unit) (on_going : old.
         store = λ ref. st.seen.refs ref ∙ sym (ap (λ n. snapshot_of old.versions n ref) r.fresh.new.snapshot_is ∙ now-is-newest (length old.history) old.versions st.numbers ref);
         reads = refl;
         joined = refl;
-        effects = refl;
+        effects = sym (ap done_in (ap₂ (λ n tasks. named n tasks) r.fresh.new.root_is r.fresh.new.alone.tasks_are ∙ ap (λ c. cond c (Some r.fresh.new.alone.task) None) (same_name-itself (next_made u unit))) ∙ ap (λ (l : SnapshotTask). l.log.effects) r.fresh.new.alone.log_is);
         ended = refl;
       }
 

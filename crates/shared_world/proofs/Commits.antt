@@ -1,16 +1,15 @@
 -- An attempt whose root is at its end keeps what is kept standing: it commits, or ends the run.
-use Rattle.std.proofs.Common.{◌≡◌, ◌∙◌, ◌≤◌, ℕ, suc, Bool, true, false, cond, append-nil, length, length-append, List, [], ◌∷◌, ◌++◌, inr, refl, sym, ap, ap₂, subst, arith}
+use Rattle.std.proofs.Common.{◌≡◌, ◌∙◌, ◌≤◌, ℕ, suc, Bool, true, false, cond, length, length-append, List, [], ◌∷◌, ◌++◌, inr, refl, sym, ap, ap₂, subst, arith}
 use Rattle.std.specs.Option.{option_and_then, option_map, option_or}
-use Rattle.std.specs.Prelude.{Option, None, Some, All, Contains, IfSome, is_some, map}
+use Rattle.std.specs.Prelude.{Option, None, Some, All, Contains, IfSome, map}
 use Rattle.actor_mailbox.specs.declared.message.Message.{Message}
-use Rattle.actor_mailbox.specs.Messages.{passes, settle}
+use Rattle.actor_mailbox.specs.Messages.{passes}
 use Rattle.actor_mails.specs.Mails.{mail_at}
 use Rattle.ref_store.proofs.StoreLaws.{above_committed, above_pruned, read_below}
 use Rattle.ref_store.specs.declared.version.Version.{Version}
 use Rattle.ref_store.specs.Store.{IsAbove, committed, versions_of}
 use Rattle.serial_model.proofs.runs.LastTurns.{replay-sounder}
 use Rattle.serial_model.proofs.runs.Made.{IsMade}
-use Rattle.serial_model.specs.declared.effect.Effect.{Effect}
 use Rattle.serial_model.specs.declared.end.End.{End}
 use Rattle.serial_model.specs.declared.end.End.TheVariants as ending
 use Rattle.serial_model.specs.declared.entry.Entry.TheVariants.{Run}
@@ -28,8 +27,9 @@ use Rattle.shared_world.proofs.Gone.{SeenAs, go-actors, go-machines, go-same, no
 use Rattle.shared_world.proofs.Lists.{among-contains, named-among, names_of, none-there, over-read, values-all, values-so, values_of}
 use Rattle.shared_world.proofs.Leading.{finished-is-level, leads-apart, level-there, live_on, seen-here, seen-same, ahead-still}
 use Rattle.shared_world.proofs.Live.{state-there}
-use Rattle.shared_world.proofs.Sent.{HasDoneLocally, HasPut, done-locally, mail-settles, put-none, put_of, with_effects}
-use Rattle.shared_world.proofs.Standing.{Grows, ref-committed, under-way}
+use Rattle.shared_world.proofs.OfTurns.{all-of, line-of, map-of}
+use Rattle.shared_world.proofs.Sent.{mail-settles}
+use Rattle.shared_world.proofs.Standing.{Grows, ref-committed, root-in, under-way}
 use Rattle.shared_world.proofs.States.{machines-same, same-pieces}
 use Rattle.shared_world.proofs.Unsettled.{AreApart, all-settled, none-hang, only-name}
 use Rattle.shared_world.specs.declared.given.Given.{Given}
@@ -37,10 +37,12 @@ use Rattle.shared_world.specs.rows.Actors.{spawned}
 use Rattle.shared_world.specs.rows.Attempts.{Commits}
 use Rattle.shared_world.specs.rows.Pieces.{Ends}
 use Rattle.shared_world.specs.rows.Tasks.{EndGives}
+use Rattle.shared_world.specs.Seen.{done_in}
+use Rattle.shared_world.specs.Sent.{AreOfTurns, AreSent}
 use Rattle.shared_world.specs.Shared.{Shared, finished_at, is_going, ref_now, state_at, unit_state}
 use Rattle.shared_world.specs.Stands.{IsMachine, IsUnderWay, Stands, start_of}
 use Rattle.task_fork_join.proofs.Ends.{ends_are_of_transactions}
-use Rattle.task_fork_join.specs.Attempt.{Attempt, end_at, outcome_of, tasks_of, tree_task}
+use Rattle.task_fork_join.specs.Attempt.{Attempt, end_at, outcome_of}
 use Rattle.task_fork_join.specs.declared.task.Task.{Task}
 use Rattle.task_fork_join.specs.declared.task_end.TaskEnd.{TaskEnd}
 use Rattle.task_fork_join.specs.declared.task_end.TaskEnd.TheVariants as end
@@ -53,7 +55,6 @@ use Rattle.unit_table.specs.Board.{actor_at, unit_at}
 use Rattle.unit_table.specs.declared.record.Record.{Record}
 use Rattle.unit_table.specs.declared.unit.Unit.{Unit}
 use Rattle.value_core.proofs.NamedLaws.{same_name-equal, same_name-itself}
-use Rattle.value_core.proofs.NamedViews.{named-each_as}
 use Rattle.value_core.specs.declared.code.Code.{Code}
 use Rattle.value_core.specs.declared.value.Value.{Value}
 use Rattle.value_core.specs.Named.{Name, Named, Rises, is_among, named, same_name}
@@ -62,14 +63,14 @@ use Rattle.world_model.proofs.Kept.{gave-keeps}
 use Rattle.world_model.proofs.lists.Lists.{each-left, each-right, settle-others}
 use Rattle.world_model.specs.Gave as row
 use Rattle.world_model.specs.IsWorld.{IsWorld}
-use Rattle.world_model.specs.rows.Attempts.{Learns, learned, local, with_attempt}
+use Rattle.world_model.specs.rows.Attempts.{Learns, learned, with_attempt}
 use Rattle.world_model.specs.rows.Commits.{IsOver, committed as committed_world, effects_bytes, effects_unit}
 use Rattle.world_model.specs.rows.Endings as end_row
 use Rattle.world_model.specs.rows.Endings.{EndsRun, ended_by}
 use Rattle.world_model.specs.StandsFor.{AttemptStands, IsAttempt, IsEnd}
 use Rattle.world_model.specs.World as world
 use Rattle.world_model.specs.World.{AttemptEnd, LiveUnit, World, line, still, with_at}
-use Rattle.world_model.specs.Message.{settled}
+use Rattle.world_model.specs.Message.{settled, unsettled}
 use Rattle.serial_model.specs.Log.{Log}
 use Rattle.unit_table.specs.Piece.{unit_in}
 
@@ -78,8 +79,8 @@ unchanged-reads : (versions : Named (List Version)) (snapshot : ℕ) (r : Name) 
 unchanged-reads versions snapshot r is = sym (ap (option_map (λ (v : Version). v.value)) (late_at snapshot (versions_of versions r) is))
 
 module _ (old : Shared) (st : Stands old) (on_going : old.end ≡ None) (u : Name) (x : Unit) (tree : Attempt) (unit_there : unit_at old.board u ≡ Some x) (there : named u old.attempts ≡ Some tree) (level : named u old.aheads ≡ None)
-    (ended : TaskEnd) (is_ended : end_at tree ≡ Some ended) (valid : All (IsUnchanged old.versions tree.snapshot) tree.reads) (effects : List Effect) (writes : Named Value)
-    (so : (v : Value) → outcome_of ended ≡ outcome.Value v → (t : Task) → named tree.root tree.tasks ≡ Some t → (t.log.log.writes ≡ writes) × (t.log.log.effects ≡ effects)) where
+    (ended : TaskEnd) (is_ended : end_at tree ≡ Some ended) (valid : All (IsUnchanged old.versions tree.snapshot) tree.reads) (writes : Named Value)
+    (so : (v : Value) → outcome_of ended ≡ outcome.Value v → (t : Task) → named tree.root tree.tasks ≡ Some t → t.log.log.writes ≡ writes) where
   abbrev w : World
   w = st.world
 
@@ -139,61 +140,39 @@ module _ (old : Shared) (st : Stands old) (on_going : old.end ≡ None) (u : Nam
   abbrev result : AttemptEnd
   result = record { outcome = outcome_of ended; writes = writes }
 
-  abbrev tried1 : world.Attempt
-  tried1 = with_effects tried effects
-
   abbrev tried2 : world.Attempt
-  tried2 = learned tried1 tree.reads joined (Some result)
-
-  abbrev w1 : World
-  w1 = local w u tried effects
+  tried2 = learned tried tree.reads joined (Some result)
 
   abbrev w2 : World
-  w2 = with_attempt w1 u tried2
+  w2 = with_attempt w u tried2
 
   made : IsMade st.is_world.state
   made = (replay-sounder old.setup st.formed w.history st.is_world.state st.is_world.replays).sound.made
 
   -- no message depends on the attempt
   apart-line : (a : Name) → AreApart (same_name tried.root) (line w a)
-  apart-line a = none-hang old.setup w st.is_world.state st.is_world.stands made u tried seen.there seen.is.effects (same_name tried.root) (only-name tried.root) a
+  apart-line a = none-hang old.setup w st.is_world.state st.is_world.stands made u tried seen.there (line-of old st) (same_name tried.root) (only-name tried.root) a
 
   apart-mail : (a : Name) → AreApart (same_name tried.root) (mail_at old.mails a)
   apart-mail a = subst (AreApart (same_name tried.root)) (st.seen.mails a) (each-right (λ (m : Message). passes (same_name tried.root) m.depends ≡ false) (w.taken a) (w.mails a) (apart-line a))
 
   -- none of the unit is unsettled
-  put : HasPut w u unit tried
-  put = record {
-    live = live;
-    attempt = seen.there;
-    in_line = λ b.
-        all-settled old.setup w st.is_world.state st.is_world.stands made u tried seen.there seen.is.effects unit live b
-        ∙ sym (ap (λ es. put_of u tried.root (w.actors b) (effects_to b es)) seen.is.effects ∙ put-none u tried.root (w.actors b));
-  }
-
-  did : HasDoneLocally w u unit tried effects w1
-  did = done-locally w u unit tried effects put seen.is.ended
-
-  is_w1 : IsWorld old.setup w1
-  is_w1 = gave-keeps old.setup st.formed w w1 None st.is_world (row.goes_on u tried effects seen.there)
-
-  units1 : (q : Name) → w1.units q ≡ w.units q
-  units1 q = ap (λ (k : World). k.units q) did.rest
+  settled-line : (a : Name) → unsettled u (line w a) ≡ []
+  settled-line = all-settled old.setup w st.is_world.state st.is_world.stands made u tried seen.there (line-of old st) unit live
 
   root_task : (t : Task) × (named tree.root tree.tasks ≡ Some t)
-  root_task = on (named tree.root tree.tasks) refl
-    where
-      on : (found : Option Task) → named tree.root tree.tasks ≡ found → (t : Task) × (named tree.root tree.tasks ≡ Some t)
-      on (Some t) is = (t, is)
-      on None is =
-          let no : false ≡ true = sym (ap is_some (named-each_as tree_task tree.root tree.tasks ∙ ap (option_map tree_task) is)) ∙ ap (λ n. is_some (named n (tasks_of tree.tasks))) way.runs.root ∙ way.runs.runs.rooted in cc
+  root_task = root-in old u tree way
+
+  -- what the root has done
+  root-done : tried.effects ≡ root_task.0.log.log.effects
+  root-done = seen.is.effects ∙ ap done_in root_task.1
 
   -- the attempt ended as its transaction does
   is_end : IsEnd old.setup unit.actor tried2 (Some result)
   is_end around agrees = record {
     outcome = transacted (λ (k : Result). k.outcome ≡ outcome_of ended) ends.outcome;
-    writes = λ v value. transacted (λ (k : Result). k.log.writes ≡ writes) (ap (λ (k : Log). k.writes) logs ∙ (so v value root_task.0 root_task.1).0);
-    effects_same = λ v value. transacted (λ (k : Result). k.log.effects ≡ tried.effects ++ effects) (ap (λ (k : Log). k.effects) logs ∙ (so v value root_task.0 root_task.1).1 ∙ ap (λ es. es ++ effects) (sym seen.is.effects));
+    writes = λ v value. transacted (λ (k : Result). k.log.writes ≡ writes) (ap (λ (k : Log). k.writes) logs ∙ so v value root_task.0 root_task.1);
+    effects_same = λ v value. transacted (λ (k : Result). k.log.effects ≡ tried.effects) (ap (λ (k : Log). k.effects) logs ∙ sym root-done);
   }
     where
       start : Start
@@ -221,67 +200,67 @@ module _ (old : Shared) (st : Stands old) (on_going : old.end ≡ None) (u : Nam
           (subst (λ b. P (transaction around start.name way.at b tried.values)) (sym same_body)
           (subst (λ vs. P (transaction around start.name way.at way.body vs)) (sym same_values) is)))
 
-  learns : Learns old.setup w1 u (still unit) tried1 tree.reads joined (Some result)
+  learns : Learns old.setup w u (still unit) tried tree.reads joined (Some result)
   learns = record {
-    there = units1 u ∙ live;
-    attempt = did.put.attempt;
+    there = live;
+    attempt = seen.there;
     stays = λ r has. absurd (none-there r (subst (λ all. Contains all r) seen.is.reads has));
     over = λ f v has. inr (finished f v (values-so (finished_at old.board) names f v has));
     end = is_end;
   }
     where
-      finished : (f : Name) (v : Value) → finished_at old.board f ≡ Some v → (y : LiveUnit) × (w1.units f ≡ Some y) × (y.takes ≡ None) × (y.from.finished ≡ Some v)
+      finished : (f : Name) (v : Value) → finished_at old.board f ≡ Some v → (y : LiveUnit) × (w.units f ≡ Some y) × (y.takes ≡ None) × (y.from.finished ≡ Some v)
       finished f v is = on (state_at old.board f) refl is
         where
           on : (found : Option UnitState) → state_at old.board f ≡ found → option_and_then (λ (k : UnitState). k.finished) found ≡ Some v
-              → (y : LiveUnit) × (w1.units f ≡ Some y) × (y.takes ≡ None) × (y.from.finished ≡ Some v)
+              → (y : LiveUnit) × (w.units f ≡ Some y) × (y.takes ≡ None) × (y.from.finished ≡ Some v)
           on None e so = cc
-          on (Some k) e so = (still k, units1 f ∙ level-there old st f k (finished-is-level old st f v is) e, refl, so)
+          on (Some k) e so = (still k, level-there old st f k (finished-is-level old st f v is) e, refl, so)
 
   is_w2 : IsWorld old.setup w2
-  is_w2 = gave-keeps old.setup st.formed w1 w2 None is_w1 (row.learns u (still unit) tried1 tree.reads joined (Some result) learns)
+  is_w2 = gave-keeps old.setup st.formed w w2 None st.is_world (row.learns u (still unit) tried tree.reads joined (Some result) learns)
 
   over : IsOver old.setup w2 u (still unit) tried2 result
   over = record {
-    going = ap (λ (k : World). k.end) did.rest ∙ st.seen.end ∙ on_going;
-    there = units1 u ∙ live;
+    going = st.seen.end ∙ on_going;
+    there = live;
     takes = refl;
     held = refl;
-    attempt = ap (λ c. cond c (Some tried2) (w1.attempts u)) (same_name-itself u);
+    attempt = ap (λ c. cond c (Some tried2) (w.attempts u)) (same_name-itself u);
     ended = refl;
-    valid = λ r has.
-        ap (λ (k : World). k.refs r) did.rest ∙ st.seen.refs r ∙ unchanged-reads old.versions tree.snapshot r (unchanged r has) ∙ sym (seen.is.store r);
+    valid = λ r has. st.seen.refs r ∙ unchanged-reads old.versions tree.snapshot r (unchanged r has) ∙ sym (seen.is.store r);
   }
     where
       unchanged : (r : Name) → Contains tree.reads r → IsUnchanged old.versions tree.snapshot r
       unchanged r has = subst (IsUnchanged old.versions tree.snapshot) has.2 (valid has.0 r has.1)
 
-  -- the run ends by the attempt, which has done nothing
-  ends-run : effects ≡ [] → (e : End) (found : Given) (new : Shared) → Ends old u e found new → EndsRun old.setup w2 (Run u) e → Stands new
-  ends-run none e found new r end_so = subst Stands (sym r.others) (record {
+  -- the run ends by the attempt
+  ends-run : (e : End) (found : Given) (new : Shared) → Ends old u e found new → EndsRun old.setup w2 (Run u) e → Stands new
+  ends-run e found new r end_so = subst Stands (sym r.others) (record {
     formed = st.formed;
     world = ended_by w2 (Run u) e;
     is_world = gave-keeps old.setup st.formed w2 (ended_by w2 (Run u) e) (Some (Run u)) is_w2 (row.ends (Run u) e end_so);
     seen = record {
-      history = ap (λ (k : World). k.history ++ Run u ∷ []) did.rest ∙ ap (λ h. h ++ Run u ∷ []) st.seen.history;
-      refs = λ q. ap (λ (k : World). k.refs q) did.rest ∙ st.seen.refs q;
-      units = λ q. units1 q ∙ seen-same old st new.board q (same-pieces old.board new.board r.pieces q);
-      actors = λ a. ap (λ (k : World). k.actors a) did.rest ∙ st.seen.actors a ∙ sym (ap actor_of_piece (r.pieces a));
-      taken = λ a. ap (λ (k : World). k.taken a) did.rest ∙ st.seen.taken a;
-      mails = λ a. did.mails a ∙ ap (λ es. w.mails a ++ put_of u tried.root (w.actors a) (effects_to a es)) none ∙ ap (λ ms. w.mails a ++ ms) (put-none u tried.root (w.actors a)) ∙ append-nil (w.mails a) ∙ st.seen.mails a;
+      history = ap (λ h. h ++ Run u ∷ []) st.seen.history;
+      refs = st.seen.refs;
+      units = λ q. seen-same old st new.board q (same-pieces old.board new.board r.pieces q);
+      actors = λ a. st.seen.actors a ∙ sym (ap actor_of_piece (r.pieces a));
+      taken = st.seen.taken;
+      mails = st.seen.mails;
       attempts = λ g v. cc;
-      bytes = ap (λ (k : World). k.bytes) did.rest ∙ st.seen.bytes;
-      made = ap (λ (k : World). k.made) did.rest ∙ st.seen.made;
+      bytes = st.seen.bytes;
+      made = st.seen.made;
       end = refl;
     };
     machines = machines-same (IsMachine old.setup) old.board new.board r.pieces st.machines;
     attempts = λ g v t is. cc;
     numbers = λ q k d in_range. let long = length-append old.history (Run u ∷ []) in let below = st.numbers q k d in_range in omega (arith, long, below);
     aheads = λ k h leads. ahead-still old.board new.board k h (same-pieces old.board new.board r.pieces k) (st.aheads k h leads);
+    sent = st.sent;
   })
 
   -- the attempt commits
-  module _ (v : Value) (found : Given) (new : Shared) (is_value : ended ≡ end.Value v) (r : Commits old u x tree v found new) (same_writes : r.log.log.writes ≡ writes) (same_effects : r.log.log.effects ≡ effects) where
+  module _ (v : Value) (found : Given) (new : Shared) (is_value : ended ≡ end.Value v) (r : Commits old u x tree v found new) (same_writes : r.log.log.writes ≡ writes) where
     abbrev versions : Named (List Version)
     versions = committed old.versions r.log.log.writes (suc (length old.history))
 
@@ -294,8 +273,8 @@ module _ (old : Shared) (st : Stands old) (on_going : old.end ≡ None) (u : Nam
     abbrev w3 : World
     w3 = committed_world w2 u (still unit) tried2 result v
 
-    all_effects : tried.effects ++ effects ≡ r.log.log.effects
-    all_effects = ap (λ es. es ++ effects) seen.is.effects ∙ sym same_effects
+    all_effects : tried.effects ≡ r.log.log.effects
+    all_effects = root-done ∙ ap (λ (k : SnapshotTask). k.log.effects) (sym (subst (λ found. IfSome found (λ (k : Task). r.log ≡ k.log)) root_task.1 r.done.root))
 
     longer : length old.history ≤ length (old.history ++ Run u ∷ [])
     longer = let long = length-append old.history (Run u ∷ []) in omega (arith, long)
@@ -303,7 +282,7 @@ module _ (old : Shared) (st : Stands old) (on_going : old.end ≡ None) (u : Nam
     refs : (q : Name) → w3.refs q ≡ ref_now new.versions q
     refs q =
         over-read writes w2.refs (subst Rises same_writes rises) q
-        ∙ ap (λ found. option_or (named q writes) found) (ap (λ (k : World). k.refs q) did.rest ∙ st.seen.refs q)
+        ∙ ap (λ found. option_or (named q writes) found) (st.seen.refs q)
         ∙ ap (λ (ws : Named Value). option_or (named q ws) (ref_now old.versions q)) (sym same_writes)
         ∙ sym (ref-committed old.versions r.log.log.writes (suc (length old.history)) rises q)
         ∙ sym (now-stays old st going u new.attempts r.goes.attempts versions new.versions r.versions q)
@@ -318,38 +297,35 @@ module _ (old : Shared) (st : Stands old) (on_going : old.end ≡ None) (u : Nam
     units q = on (same_name q u) refl (states q)
       where
         on : (c : Bool) → same_name q u ≡ c → state_at new.board q ≡ cond c (Some unit_after) (state_at old.board q)
-            → cond c (Some (still (answered (with_made (effects_unit (tried.effects ++ effects) unit)) v))) (w2.units q) ≡ live_on old st new.board q
+            → cond c (Some (still (answered (with_made (effects_unit tried.effects unit)) v))) (w2.units q) ≡ live_on old st new.board q
         on true same e = ap (λ es. Some (still (answered (with_made (effects_unit es unit)) v))) all_effects ∙ seen-here old st new.board u q unit_after level same e
-        on false other e = units1 q ∙ seen-same old st new.board q e
+        on false other e = seen-same old st new.board q e
 
     actors : (a : Name) → w3.actors a ≡ actor_at new.board a
     actors a =
-        spawned-over (tried.effects ++ effects) w2.actors a
-        ∙ ap₂ (λ es below. option_or (spawned es a) below) all_effects (ap (λ (k : World). k.actors a) did.rest ∙ st.seen.actors a)
+        spawned-over tried.effects w2.actors a
+        ∙ ap₂ (λ es below. option_or (spawned es a) below) all_effects (st.seen.actors a)
         ∙ sym (act-actors r.log.log.effects old new r.board r.acts (go-actors u x r.unit tree old.board r.board unit_there r.goes.tasks) a)
 
     -- what is sent is settled
-    put2 : HasPut w2 u unit tried2
-    put2 = record { live = did.put.live; attempt = over.attempt; in_line = did.put.in_line }
-
     mails : (a : Name) → w3.mails a ≡ mail_at new.mails a
     mails a =
-        mail-settles w2 u unit tried2 a (mail_at old.mails a) put2 (apart-mail a) in_mail
+        mail-settles w2 u unit tried2 a (mail_at old.mails a) live over.attempt (settled-line a) (apart-mail a) (st.seen.mails a)
         ∙ ap (λ es. mail_at old.mails a ++ map (settled u) (effects_to a es)) all_effects
         ∙ sym (r.mails a)
-      where
-        in_mail : w2.mails a ≡ mail_at old.mails a ++ put_of u tried.root (w2.actors a) (effects_to a (tried.effects ++ effects))
-        in_mail =
-            did.mails a
-            ∙ ap₂ (λ ms found. ms ++ put_of u tried.root found (effects_to a effects)) (st.seen.mails a) (sym (ap (λ (k : World). k.actors a) did.rest))
-            ∙ ap (λ es. mail_at old.mails a ++ put_of u tried.root (w2.actors a) (effects_to a (es ++ effects))) (sym seen.is.effects)
+
+    sent : AreSent old.taken new.mails
+    sent = record {
+      taken_so = st.sent.taken_so;
+      mail_so = λ a. subst AreOfTurns (sym (r.mails a)) (all-of (mail_at old.mails a) (map (settled u) (effects_to a r.log.log.effects)) (st.sent.mail_so a) (map-of u (effects_to a r.log.log.effects)));
+    }
 
     others : (k : Name) → (k ≡ u → ⊥) → with_at w2.attempts u None k ≡ w.attempts k
     others k other = on (same_name k u) refl
       where
-        on : (c : Bool) → same_name k u ≡ c → cond c None (cond c (Some tried2) (w1.attempts k)) ≡ w.attempts k
+        on : (c : Bool) → same_name k u ≡ c → cond c None (cond c (Some tried2) (w.attempts k)) ≡ w.attempts k
         on true e = absurd (other (same_name-equal k u e))
-        on false e = did.others k e
+        on false e = refl
 
     before : (k : Name) (t : Attempt) → named k new.attempts ≡ Some t → (q : Name) → snapshot_of versions t.snapshot q ≡ snapshot_of old.versions t.snapshot q
     before k t is q =
@@ -383,16 +359,16 @@ module _ (old : Shared) (st : Stands old) (on_going : old.end ≡ None) (u : Nam
       world = w3;
       is_world = gave-keeps old.setup st.formed w2 w3 (Some (Run u)) is_w2 (row.commits u (still unit) tried2 result v (record { over = over; value = ap outcome_of is_value }));
       seen = record {
-        history = ap (λ (k : World). k.history ++ Run u ∷ []) did.rest ∙ ap (λ h. h ++ Run u ∷ []) st.seen.history;
+        history = ap (λ h. h ++ Run u ∷ []) st.seen.history;
         refs = refs;
         units = units;
         actors = actors;
-        taken = λ a. ap (λ (k : World). settle (same_name tried.root) (k.taken a)) did.rest ∙ settle-others (same_name tried.root) (w.taken a) (each-left (λ (m : Message). passes (same_name tried.root) m.depends ≡ false) (w.taken a) (w.mails a) (apart-line a)) ∙ st.seen.taken a;
+        taken = λ a. settle-others (same_name tried.root) (w.taken a) (each-left (λ (m : Message). passes (same_name tried.root) m.depends ≡ false) (w.taken a) (w.mails a) (apart-line a)) ∙ st.seen.taken a;
         mails = mails;
         attempts = λ g k. seen-stay old st going u new.attempts r.goes.attempts versions new.versions before r.versions (λ q. with_at w2.attempts u None q) others (ap (λ c. cond c None (w2.attempts u)) (same_name-itself u)) k;
-        bytes = ap (λ (k : World). k.bytes ++ effects_bytes (tried.effects ++ effects)) did.rest ∙ ap (λ b. b ++ effects_bytes (tried.effects ++ effects)) st.seen.bytes ∙ ap (λ es. old.bytes ++ effects_bytes es) all_effects;
-        made = ap (λ (k : World). k.made) did.rest ∙ st.seen.made;
-        end = ap (λ (k : World). k.end) did.rest ∙ st.seen.end;
+        bytes = ap (λ b. b ++ effects_bytes tried.effects) st.seen.bytes ∙ ap (λ es. old.bytes ++ effects_bytes es) all_effects;
+        made = st.seen.made;
+        end = st.seen.end;
       };
       machines = act-machines r.log.log.effects old new r.board r.acts (IsMachine old.setup) (go-machines (IsMachine old.setup) u r.unit tree old.board r.board r.stands.machine r.goes.tasks st.machines);
       attempts = λ g k t is.
@@ -400,6 +376,7 @@ module _ (old : Shared) (st : Stands old) (on_going : old.end ≡ None) (u : Nam
           under-way old after k t refl (apart k stay.0) (λ q. reads-stay old st going u new.attempts r.goes.attempts versions new.versions r.versions k t is q ∙ before k t is q) grows longer (st.attempts going k t stay.1);
       numbers = above_pruned r.versions.live versions new.versions r.versions.pruned (suc (length (old.history ++ Run u ∷ []))) above;
       aheads = λ k h leads. ahead-still old.board new.board k h (apart k (leads-apart old st u level k h leads)) (st.aheads k h leads);
+      sent = sent;
     })
 
 -- what a valid attempt comes to
@@ -407,26 +384,26 @@ module _ (old : Shared) (st : Stands old) (on_going : old.end ≡ None) (u : Nam
     (valid : All (IsUnchanged old.versions tree.snapshot) tree.reads) where
   -- without a value nothing is done
   module _ (ended : TaskEnd) (is_ended : end_at tree ≡ Some ended) (no_value : (v : Value) → outcome_of ended ≡ outcome.Value v → ⊥) where
-    nothing : (v : Value) → outcome_of ended ≡ outcome.Value v → (t : Task) → named tree.root tree.tasks ≡ Some t → (t.log.log.writes ≡ []) × (t.log.log.effects ≡ [])
+    nothing : (v : Value) → outcome_of ended ≡ outcome.Value v → (t : Task) → named tree.root tree.tasks ≡ Some t → t.log.log.writes ≡ []
     nothing v is t there = absurd (no_value v is)
 
     pub failed : (failed : Code) (place : Spot) → outcome_of ended ≡ outcome.Fault failed place → (found : Given) (new : Shared) → Ends old u (ending.Fault failed place u) found new → Stands new
     failed code place is found new r =
-        ends-run old st on_going u x tree unit_there there level ended is_ended valid [] [] nothing refl (ending.Fault code place u) found new r
-        (end_row.attempt_fault u (still (unit_state x)) _ _ code place (over old st on_going u x tree unit_there there level ended is_ended valid [] [] nothing) is)
+        ends-run old st on_going u x tree unit_there there level ended is_ended valid [] nothing (ending.Fault code place u) found new r
+        (end_row.attempt_fault u (still (unit_state x)) _ _ code place (over old st on_going u x tree unit_there there level ended is_ended valid [] nothing) is)
 
     pub spent : outcome_of ended ≡ outcome.Spent → (found : Given) (new : Shared) → Ends old u (ending.Spent u) found new → Stands new
     spent is found new r =
-        ends-run old st on_going u x tree unit_there there level ended is_ended valid [] [] nothing refl (ending.Spent u) found new r
-        (end_row.attempt_spent u (still (unit_state x)) _ _ (over old st on_going u x tree unit_there there level ended is_ended valid [] [] nothing) is)
+        ends-run old st on_going u x tree unit_there there level ended is_ended valid [] nothing (ending.Spent u) found new r
+        (end_row.attempt_spent u (still (unit_state x)) _ _ (over old st on_going u x tree unit_there there level ended is_ended valid [] nothing) is)
 
   pub end-keeps : (ended : TaskEnd) → end_at tree ≡ Some ended → (found : Given) (new : Shared) → EndGives old u x tree ended found new → Stands new
   end-keeps (end.Fault code place) is found new r = failed (end.Fault code place) is (λ v e. cc) code place refl found new r
   end-keeps end.Spent is found new r = spent end.Spent is (λ v e. cc) refl found new r
   end-keeps (end.Value v) is found new r =
-      commits old st on_going u x tree unit_there there level (end.Value v) is valid r.log.log.effects r.log.log.writes done v found new refl r refl refl
+      commits old st on_going u x tree unit_there there level (end.Value v) is valid r.log.log.writes done v found new refl r refl
     where
-      done : (k : Value) → outcome.Value v ≡ outcome.Value k → (t : Task) → named tree.root tree.tasks ≡ Some t → (t.log.log.writes ≡ r.log.log.writes) × (t.log.log.effects ≡ r.log.log.effects)
+      done : (k : Value) → outcome.Value v ≡ outcome.Value k → (t : Task) → named tree.root tree.tasks ≡ Some t → t.log.log.writes ≡ r.log.log.writes
       done k e t is_t =
           let same : r.log ≡ t.log = subst (λ found. IfSome found (λ (k : Task). r.log ≡ k.log)) is_t r.done.root in
-          (ap (λ (k : SnapshotTask). k.log.writes) (sym same), ap (λ (k : SnapshotTask). k.log.effects) (sym same))
+          ap (λ (k : SnapshotTask). k.log.writes) (sym same)

@@ -9,6 +9,7 @@ use Rattle.serial_model.specs.State.{UnitState}
 use Rattle.shared_world.proofs.ActorPieces.{SameActors, actor_of_piece, gone-actor, not-same, unit-no-actor}
 use Rattle.shared_world.proofs.Leading.{live_on, seen-same, ahead-still}
 use Rattle.shared_world.proofs.Live.{state-there}
+use Rattle.shared_world.proofs.OfTurns.{line-of}
 use Rattle.shared_world.proofs.Standing.{under-way}
 use Rattle.shared_world.proofs.States.{EachMachine, SameStates, gone-same}
 use Rattle.shared_world.proofs.Unsettled.{AreApart, none-hang}
@@ -153,7 +154,7 @@ module _ (old : Shared) (st : Stands old) (on_going : is_going old.end ≡ true)
 
   -- no message depends on it
   apart : (a : Name) → AreApart gone (line w a)
-  apart a = none-hang old.setup w st.is_world.state st.is_world.stands (replay-sounder old.setup st.formed w.history st.is_world.state st.is_world.replays).sound.made u seen.tried seen.there seen.is.effects gone
+  apart a = none-hang old.setup w st.is_world.state st.is_world.stands (replay-sounder old.setup st.formed w.history st.is_world.state st.is_world.replays).sound.made u seen.tried seen.there (line-of old st) gone
       (λ n is. same_name-equal n tree.root is ∙ sym seen.is.root) a
 
   -- nothing but its root hangs on the attempt
@@ -194,6 +195,7 @@ module _ (old : Shared) (st : Stands old) (on_going : is_going old.end ≡ true)
         (λ f val fin. ap (option_and_then (λ (k : UnitState). k.finished)) (same f) ∙ fin) (le_refl (length old.history)) (st.attempts on_going v other stay.1);
     numbers = above_pruned r.versions.live old.versions new.versions r.versions.pruned (suc (length old.history)) st.numbers;
     aheads = λ v h leads. ahead-still old.board new.board v h (same v) (st.aheads v h leads);
+    sent = st.sent;
   })
     where
       after : Shared

@@ -64,24 +64,25 @@ unit-gave old st on_going u not_done found new g = unit-keeps old st u g.unit he
 
 -- what an attempt comes to whose root is at its end
 module _ (old : Shared) (st : Stands old) (on_going : old.end ≡ None) (u : Name) (x : Unit) (tree : Attempt) (unit_there : unit_at old.board u ≡ Some x) (there : named u old.attempts ≡ Some tree) where
-  root-keeps : (ended : TaskEnd) → end_at tree ≡ Some ended → (found : Given) (new : Shared) → RootGives old u x tree ended found new → Stands new
-  root-keeps ended is found new (row.valid level unchanged gives) = end-keeps old st on_going u x tree unit_there there level unchanged ended is found new gives
-  root-keeps ended is found new (row.conflicts level c) = aborted old st (ap is_going on_going) u x tree unit_there there c.ref c.conflict.version found new c.aborts
+  root-keeps : (task : Name) → NeitherAt old.board task → (ended : TaskEnd) → end_at tree ≡ Some ended → (found : Given) (new : Shared) → RootGives old u x task tree ended found new → Stands new
+  root-keeps task none ended is found new (row.valid level unchanged gives) = end-keeps old st on_going u x tree unit_there there level unchanged ended is found new gives
+  root-keeps task none ended is found new (row.conflicts level c) = aborted old st (ap is_going on_going) u x tree unit_there there c.ref c.conflict.version found new c.aborts
+  root-keeps task none ended is found new (row.waits r) = marked-task old st task (mark.Waiting (wait.Definite u)) new none r.marked
 
-  missing-keeps : (ref : Name) (version : Option Version) (found : Given) (new : Shared) → Missing old u x tree ref version found new → Stands new
-  missing-keeps ref None found new r = absurd r
-  missing-keeps ref (Some version) found new r = aborted old st (ap is_going on_going) u x tree unit_there there ref version.number found new r
+  missing-keeps : (task : Name) → NeitherAt old.board task → (ref : Name) (version : Option Version) (found : Given) (new : Shared) → Missing old u x task tree ref version found new → Stands new
+  missing-keeps task none ref None found new r = marked-task old st task (mark.Waiting (wait.Definite u)) new none r.marked
+  missing-keeps task none ref (Some version) found new r = aborted old st (ap is_going on_going) u x tree unit_there there ref version.number found new r
 
   step-keeps : (task : Name) → NeitherAt old.board task → (went : Stepped) (found : Given) (new : Shared) → StepGives old u x task tree went found new → Stands new
   step-keeps task none stepped_as.Now found new r = marked-task old st task (mark.Ready work.Eval) new none r.1
   step-keeps task none (stepped_as.Forked child) found new r = forked-task old st u task child new none r.1
   step-keeps task none (stepped_as.WaitJoin future) found new r = marked-task old st task (mark.Waiting (wait.Finish future)) new none r.1
-  step-keeps task none (stepped_as.NotInSnapshot ref) found new r = missing-keeps ref (newest (versions_of old.versions ref)) found new r
+  step-keeps task none (stepped_as.NotInSnapshot ref) found new r = missing-keeps task none ref (newest (versions_of old.versions ref)) found new r
   step-keeps task none stepped_as.Finished found new r = marked-task old st task (mark.Finished value.Nil) new none r.1
 
   after-keeps : (task : Name) → NeitherAt old.board task → (went : Stepped) (end : Option TaskEnd) → end_at tree ≡ end → (found : Given) (new : Shared) → AfterStep old u x task tree went end found new → Stands new
   after-keeps task none went None is found new r = step-keeps task none went found new r
-  after-keeps task none went (Some ended) is found new r = root-keeps ended is found new r
+  after-keeps task none went (Some ended) is found new r = root-keeps task none ended is found new r
 
 -- what a task comes to
 task-keeps : (old : Shared) → Stands old → old.end ≡ None → (u : Name) (x : Unit) (task : Name) (tree : Attempt) → unit_at old.board u ≡ Some x → named u old.attempts ≡ Some tree → NeitherAt old.board task
@@ -91,7 +92,7 @@ task-keeps old st on_going u x task tree unit_there there none None (Some machin
     (stepped old st (ap is_going on_going) u task tree there machine r.moved is r.same r.of r.after r.went r.step)
     on_going u x r.after unit_there (named-here u r.after old.attempts) task none r.went (end_at r.after) refl found new r.comes
 task-keeps old st on_going u x task tree unit_there there none None None unended is found new r = absurd r
-task-keeps old st on_going u x task tree unit_there there none (Some ended) machine unended is found new r = root-keeps old st on_going u x tree unit_there there ended unended found new r
+task-keeps old st on_going u x task tree unit_there there none (Some ended) machine unended is found new r = root-keeps old st on_going u x tree unit_there there task none ended unended found new r
 
 pub task-gave : (old : Shared) → Stands old → old.end ≡ None → (name : Name) (found : Given) (new : Shared) → GaveTask old name found new → Stands new
 task-gave old st on_going name found new g =

@@ -4,6 +4,7 @@ pub mod Appends
 pub mod Begins
 pub mod Besides
 pub mod Commits
+pub mod Doing
 pub mod Effects
 pub mod Gone
 pub mod Kept
@@ -27,9 +28,11 @@ pub mod MarkedTurns
 pub mod MarkedUnits
 pub mod MarkLaws
 pub mod Marks
+pub mod OfTurns
 pub mod Opens
 pub mod Over
 pub mod Quiet
+pub mod Sending
 pub mod Sent
 pub mod Spreads
 pub mod Standing

@@ -103,10 +103,10 @@ others-are-ready s name p marks on_going there not_ready = by (lent_at s.board n
     unit x (mark.Finished v) is e not_so says = held.finished v (ap mark_in is ∙ e)
     unit x mark.Dropped is e not_so says = absurd says
 
-    task : (m : Mark) → p ≡ piece.Task m → says_ready m ≡ false → (is : IsTaskPiece s name m) → TaskSays s.board is.tree.tasks is.task m → IsHeldUp s name p
+    task : (m : Mark) → p ≡ piece.Task m → says_ready m ≡ false → (is : IsTaskPiece s name m) → TaskSays s is.owner is.tree.tasks is.task m → IsHeldUp s name p
     task (mark.Ready w) is not_so piece says = cc
     task (mark.Waiting (wait.Finish f)) is not_so piece says = held.task f piece is says
-    task (mark.Waiting (wait.Definite t)) is not_so piece says = absurd says
+    task (mark.Waiting (wait.Definite t)) is not_so piece says = held.hangs t piece is says
     task mark.Resting is not_so piece says = absurd says
     task (mark.Finished v) is not_so piece says = held.finished v (ap mark_in is)
     task mark.Dropped is not_so piece says = absurd says

@@ -25,7 +25,7 @@ use Rattle.shared_world.proofs.Live.{state-there, unit-piece}
 use Rattle.shared_world.proofs.MarkedActors.{actor-placed, actor-put, actor-sent, has-last, put-mark}
 use Rattle.shared_world.proofs.MarkedLeads.{changed-here, changed-others, holds-marked, open-ahead, settles-marked, settles-so, turn-no-task, waits-marked}
 use Rattle.shared_world.proofs.MarkedUnits.{begun-marked, ends-going, marked-put, no-attempt-of}
-use Rattle.shared_world.proofs.Marks.{AreMarkedBut, IsSameButActors, IsStill, but-one, but_actor, come-again, marked-actors, marked-same, SameRoot, same-root, same-task, task-again, unit-again}
+use Rattle.shared_world.proofs.Marks.{AreMarkedBut, IsSameButActors, IsStill, but-one, but_actor, come-again, marked-actors, marked-same, SameRoot, same-root, same-task, still-ahead, task-again, unit-again}
 use Rattle.shared_world.proofs.Takings.{IsTakenBy, none-taken, taken-by, takes-called, takes-taken}
 use Rattle.shared_world.specs.Ahead.{Ahead}
 use Rattle.shared_world.specs.declared.given.Given.{Given}
@@ -197,7 +197,8 @@ module _ (old : Shared) (st : Stands old) (all : AreMarked old) (to : Name) (mes
     attempt = attempts is.owner ∙ is.attempt;
     task = is.task;
     among = is.among;
-    says = λ unended. task-again old.board base.board is.tree.tasks is.tree.tasks is.task m (λ f e. come-again old.board base.board is.tree.tasks is.task f (λ none. finished f ∙ none)) (is.says unended);
+    hangs = is.hangs;
+    says = λ unended. task-again old base is.owner is.tree.tasks is.tree.tasks is.task m (λ e. still-ahead old base is.owner (aheads is.owner)) (λ f e. come-again old.board base.board is.tree.tasks is.task f (λ none. finished f ∙ none)) (is.says unended);
   }
 
   actor-was : (a : Name) (z : Actor) (c : Bool) → same_name a turn ≡ c → piece_at base.board a ≡ Some (piece.Actor z) → piece_at old.board a ≡ Some (piece.Actor z)
@@ -362,7 +363,16 @@ module _ (old : Shared) (st : Stands old) (all : AreMarked old) (on_going : old.
     begun-but : AreMarkedBut u false begun-base
     begun-but = record {
       units = λ v z other at. unit-again mid begun-base v z z.mark refl (record { root = same-root (named v old.attempts); ahead = refl; settles = settles-still v other }) (λ f e none. none) (busy-marked.units v z at);
-      tasks = λ n m other at. let is = busy-marked.tasks n m at in record { owner = is.owner; of = is.of; tree = is.tree; attempt = is.attempt; task = is.task; among = is.among; says = λ unended why. is.says unended };
+      tasks = λ n m other at. let is = busy-marked.tasks n m at in record {
+        owner = is.owner;
+        of = is.of;
+        tree = is.tree;
+        attempt = is.attempt;
+        task = is.task;
+        among = is.among;
+        hangs = is.hangs;
+        says = λ unended why. task-again mid begun-base is.owner is.tree.tasks is.tree.tasks is.task m (λ e. still-ahead mid begun-base is.owner refl) (λ f e come. come) (is.says unended);
+      };
       actors = λ b z at. busy-actors b z (same_name b a) refl at;
       pieces = λ v tree at n t among. let has = busy-marked.pieces v tree at n t among in record { mark = has.mark; there = has.there; of = has.of };
     }

@@ -6,7 +6,7 @@ use Rattle.actor_mails.specs.Mails.{SameMail}
 use Rattle.serial_model.specs.State.{UnitState}
 use Rattle.shared_world.proofs.Besides.{apart-of}
 use Rattle.shared_world.proofs.Live.{unit-piece}
-use Rattle.shared_world.proofs.Marks.{ActorsAreMarked, IsStill, come-again, same-root, same-settles, SameRoot, task-again, unit-again}
+use Rattle.shared_world.proofs.Marks.{ActorsAreMarked, IsStill, come-again, same-root, same-settles, SameRoot, still-ahead, task-again, unit-again}
 use Rattle.shared_world.specs.Marks.{AreMarked, HasPiece, IsTaskPiece, UnitSays}
 use Rattle.shared_world.specs.rows.Actors.{actor_mark, has_turn}
 use Rattle.shared_world.specs.rows.Attempts.{TasksGo}
@@ -129,7 +129,8 @@ module _ (old new : Shared) (marked : AreMarked old) (u : Name) (x y : Doing) (t
         attempt = is.attempts before.owner ∙ ap (λ c. cond c None (named before.owner old.attempts)) e ∙ before.attempt;
         task = before.task;
         among = before.among;
-        says = λ unended. task-again old.board new.board before.tree.tasks before.tree.tasks before.task m (λ f waits. come-again old.board new.board before.tree.tasks before.task f (over f)) (before.says unended);
+        hangs = before.hangs;
+        says = λ unended. task-again old new before.owner before.tree.tasks before.tree.tasks before.task m (λ e. still-ahead old new before.owner (ap (named before.owner) is.aheads)) (λ f waits. come-again old.board new.board before.tree.tasks before.task f (over f)) (before.says unended);
       }
 
   actors : ActorsAreMarked new

@@ -8,11 +8,11 @@ use Rattle.serial_model.specs.State.{UnitState}
 use Rattle.shared_world.proofs.Besides.{apart-of}
 use Rattle.shared_world.proofs.Leads.{beside-unit}
 use Rattle.shared_world.proofs.Live.{unit-piece}
-use Rattle.shared_world.proofs.Marks.{AreMarkedBut, IsStill, IsTaskPieceBut, but-one, come-again, marked-set, SameRoot, same-root, same-settles, task-again, unfinished-mark, unit-again}
+use Rattle.shared_world.proofs.Marks.{AreMarkedBut, IsStill, IsTaskPieceBut, but-one, come-again, marked-set, SameRoot, same-root, same-settles, still-ahead, task-again, unfinished-mark, unit-again}
 use Rattle.shared_world.specs.Ahead.{Ahead}
 use Rattle.shared_world.specs.declared.given.Given.{Given}
 use Rattle.shared_world.specs.Marks as marks
-use Rattle.shared_world.specs.Marks.{AreMarked, HasPiece, IsTaskPiece, TaskSays, UnitSays}
+use Rattle.shared_world.specs.Marks.{AreMarked, HangsOn, HasPiece, IsRunningAhead, IsTaskPiece, TaskSays, UnitSays}
 use Rattle.shared_world.specs.rows.Actors.{actor_mark, has_turn}
 use Rattle.shared_world.specs.rows.Leading.{HoldsOn, IsChanged, LeadSettles, WaitsDefinite, beside_left, can_settle, is_definite, leads_on, mark_ahead, mark_definite, mark_left, settles_next}
 use Rattle.shared_world.specs.rows.Pieces.{IsSet}
@@ -56,34 +56,36 @@ pub open-ahead : (c : Bool) (m : Mark) → says_finished m ≡ false → says_fi
 open-ahead true m unended = refl
 open-ahead false m unended = unended
 
--- what stood beside a turn, once it holds nothing any more: a task is ready or as it was
-record WasBeside (found : Option Piece) (m : Mark) : Type 0 where
+-- what stood beside a turn, once it holds nothing any more: a task is ready, or as it was and does not wait for that turn
+record WasBeside (u : Name) (o : Option Ahead) (found : Option Piece) (m : Mark) : Type 0 where
   before : Mark
   there : found ≡ Some (piece.Task before)
-  is : (m ≡ before) ⊎ (m ≡ mark.Ready work.Settle)
+  is : ((m ≡ before) × (o ≡ None → before ≡ mark.Waiting (wait.Definite u) → ⊥)) ⊎ (m ≡ mark.Ready work.Settle)
 
-definite-or : (u : Name) (m : Mark) → (mark_definite u m ≡ m) ⊎ (mark_definite u m ≡ mark.Ready work.Settle)
-definite-or u (mark.Ready w) = inl refl
-definite-or u (mark.Waiting (wait.Finish f)) = inl refl
-definite-or u (mark.Waiting (wait.Definite t)) = on (same_name t u)
+definite-or : (u : Name) (m : Mark) → ((mark_definite u m ≡ m) × (m ≡ mark.Waiting (wait.Definite u) → ⊥)) ⊎ (mark_definite u m ≡ mark.Ready work.Settle)
+definite-or u (mark.Ready w) = inl (refl, λ e. cc)
+definite-or u (mark.Waiting (wait.Finish f)) = inl (refl, λ e. cc)
+definite-or u (mark.Waiting (wait.Definite t)) = on (same_name t u) refl
   where
-    on : (c : Bool) → (cond c (mark.Ready work.Settle) (mark.Waiting (wait.Definite t)) ≡ mark.Waiting (wait.Definite t)) ⊎ (cond c (mark.Ready work.Settle) (mark.Waiting (wait.Definite t)) ≡ mark.Ready work.Settle)
-    on true = inr refl
-    on false = inl refl
-definite-or u mark.Resting = inl refl
-definite-or u (mark.Finished v) = inl refl
-definite-or u mark.Dropped = inl refl
+    on : (c : Bool) → same_name t u ≡ c
+        → ((cond c (mark.Ready work.Settle) (mark.Waiting (wait.Definite t)) ≡ mark.Waiting (wait.Definite t)) × (mark.Waiting (wait.Definite t) ≡ mark.Waiting (wait.Definite u) → ⊥)) ⊎ (cond c (mark.Ready work.Settle) (mark.Waiting (wait.Definite t)) ≡ mark.Ready work.Settle)
+    on true e = inr refl
+    on false e = inl (refl, λ waits. apart-of t u e (let same : t ≡ u = cc in same))
+definite-or u mark.Resting = inl (refl, λ e. cc)
+definite-or u (mark.Finished v) = inl (refl, λ e. cc)
+definite-or u mark.Dropped = inl (refl, λ e. cc)
 
-was-beside : (u : Name) (o : Option Ahead) (found : Option Piece) (m : Mark) → beside_left u o found ≡ Some (piece.Task m) → WasBeside found m
-was-beside u (Some h) found m e = record { before = m; there = e; is = inl refl }
+was-beside : (u : Name) (o : Option Ahead) (found : Option Piece) (m : Mark) → beside_left u o found ≡ Some (piece.Task m) → WasBeside u o found m
+was-beside u (Some h) found m e = record { before = m; there = e; is = inl (refl, λ none. cc) }
 was-beside u None None m e = cc
 was-beside u None (Some (piece.Unit x)) m e = cc
 was-beside u None (Some (piece.Actor a)) m e = cc
-was-beside u None (Some (piece.Task k)) m e = let same : mark_definite u k ≡ m = cc in record { before = k; there = refl; is = by (definite-or u k) same }
+was-beside u None (Some (piece.Task k)) m e = let same : mark_definite u k ≡ m = cc in record { before = k; there = refl; is = by None (definite-or u k) same }
   where
-    by : (mark_definite u k ≡ k) ⊎ (mark_definite u k ≡ mark.Ready work.Settle) → mark_definite u k ≡ m → (m ≡ k) ⊎ (m ≡ mark.Ready work.Settle)
-    by (inl stays) same = inl (sym same ∙ stays)
-    by (inr ready) same = inr (sym same ∙ ready)
+    by : (o : Option Ahead) → ((mark_definite u k ≡ k) × (k ≡ mark.Waiting (wait.Definite u) → ⊥)) ⊎ (mark_definite u k ≡ mark.Ready work.Settle) → mark_definite u k ≡ m
+        → ((m ≡ k) × (o ≡ None → k ≡ mark.Waiting (wait.Definite u) → ⊥)) ⊎ (m ≡ mark.Ready work.Settle)
+    by o (inl stays) same = inl (sym same ∙ stays.0, λ none. stays.1)
+    by o (inr ready) same = inr (sym same ∙ ready)
 
 task-left : (u : Name) (o : Option Ahead) (found : Option Piece) (k : Mark) → found ≡ Some (piece.Task k) → (m : Mark) × (beside_left u o found ≡ Some (piece.Task m))
 task-left u (Some h) found k is = (k, is)
@@ -112,13 +114,14 @@ module _ (old : Shared) (u : Name) (x : Doing) (at_u : unit_at old.board u ≡ S
 
   -- The turn is put with a mark that is right, and all else is as in the base.
   turn-put : (base new : Shared) (y : Doing) (m : Mark) → AreMarked base → y.mark ≡ m → says_finished m ≡ false → IsPutAt u (Some (piece.Unit y)) base.board new.board → new ≡ record base { board = new.board; aheads = new.aheads }
-      → ((v : Name) → (v ≡ u → ⊥) → named v new.aheads ≡ named v base.aheads) → ((k : Mark) → piece_at base.board u ≡ Some (piece.Task k) → ⊥) → ((z : Doing) → UnitSays new u z m) → AreMarked new
-  turn-put base new y m marked is_m unended put others aheads apart says = marked-set base new u (piece.Unit y) m (record {
+      → ((v : Name) → (v ≡ u → ⊥) → named v new.aheads ≡ named v base.aheads) → IsRunningAhead new u → ((k : Mark) → piece_at base.board u ≡ Some (piece.Task k) → ⊥) → ((z : Doing) → UnitSays new u z m) → AreMarked new
+  turn-put base new y m marked is_m unended put others aheads leads_now apart says = marked-set base new u (piece.Unit y) m (record {
     set = put-set u (piece.Unit y) m base.board new.board unended put;
     setup = ap (λ (s : Shared). s.setup) others;
     attempts = ap (λ (s : Shared). s.attempts) others;
     owners = ap (λ (s : Shared). s.owners) others;
     aheads = aheads;
+    leads = λ before. leads_now;
     taken = ap (λ (s : Shared). s.taken) others;
     mails = λ a. ap (λ (s : Shared). mail_at s.mails a) others;
     unfinished = λ e. ap (λ p. option_and_then (λ (k : UnitState). k.finished) (option_map unit_state (option_and_then unit_in p))) put.here ∙ ap finished_by is_m ∙ unfinished-mark m unended;
@@ -132,7 +135,7 @@ module _ (old : Shared) (u : Name) (x : Doing) (at_u : unit_at old.board u ≡ S
   -- ---- it waits until it is definite
   pub waits-marked : AreMarked old → (found : Given) (new : Shared) → WaitsDefinite old u x h found new → AreMarked new
   waits-marked marked found new r = turn-put old new r.unit (mark_ahead (is_definite old.taken h.takes) (mark.Waiting (wait.Definite u))) marked r.stands.mark (open-ahead (is_definite old.taken h.takes) (mark.Waiting (wait.Definite u)) refl)
-      r.put r.others (changed-others u (Some (record h { waits = true })) old.aheads new.aheads r.aheads) turn-no-task (λ z. says z (is_definite old.taken h.takes) refl)
+      r.put r.others (changed-others u (Some (record h { waits = true })) old.aheads new.aheads r.aheads) (record { ahead = record h { waits = true }; leads = leads_now }) turn-no-task (λ z. says z (is_definite old.taken h.takes) refl)
     where
       leads_now : named u new.aheads ≡ Some (record h { waits = true })
       leads_now = changed-here u (Some (record h { waits = true })) old.aheads new.aheads r.aheads
@@ -147,7 +150,8 @@ module _ (old : Shared) (u : Name) (x : Doing) (at_u : unit_at old.board u ≡ S
   -- ---- it holds one effect more
   pub holds-marked : named u old.attempts ≡ None → (r : Request) (base : Shared) → AreMarked base → base.attempts ≡ old.attempts → ((k : Mark) → piece_at base.board u ≡ Some (piece.Task k) → ⊥) → (found : Given) (new : Shared) → HoldsOn base u x h r found new → AreMarked new
   holds-marked none r base marked attempts apart found new g = turn-put base new g.unit (mark_ahead (is_definite base.taken h.takes) (mark.Ready work.Eval)) marked g.stands.mark (open-ahead (is_definite base.taken h.takes) (mark.Ready work.Eval) refl)
-      g.put g.others (changed-others u (Some (record h { held = h.held ++ r ∷ []; waits = false })) base.aheads new.aheads g.aheads) apart (λ z. says z (is_definite base.taken h.takes))
+      g.put g.others (changed-others u (Some (record h { held = h.held ++ r ∷ []; waits = false })) base.aheads new.aheads g.aheads)
+      (record { ahead = record h { held = h.held ++ r ∷ []; waits = false }; leads = changed-here u (Some (record h { held = h.held ++ r ∷ []; waits = false })) base.aheads new.aheads g.aheads }) apart (λ z. says z (is_definite base.taken h.takes))
     where
       gone : named u new.attempts ≡ None
       gone = ap (λ (s : Shared). named u s.attempts) g.others ∙ ap (named u) attempts ∙ none
@@ -218,19 +222,32 @@ module _ (old : Shared) (u : Name) (x : Doing) (at_u : unit_at old.board u ≡ S
       attempt = attempts before.owner ∙ before.attempt;
       task = before.task;
       among = before.among;
+      hangs = hangs was.is;
       says = λ unended. by was.is (before.says unended (λ e. cc));
     }
       where
-        was : WasBeside (piece_at base.board n) m
+        was : WasBeside u (leads_on left) (piece_at base.board n) m
         was = was-beside u (leads_on left) (piece_at base.board n) m (sym (g.beside n other) ∙ at)
 
         before : IsTaskPieceBut u false base n was.before
         before = marked.tasks n was.before other was.there
 
-        by : (m ≡ was.before) ⊎ (m ≡ mark.Ready work.Settle) → TaskSays base.board before.tree.tasks before.task was.before → TaskSays new.board before.tree.tasks before.task m
-        by (inl same) is = subst (λ k. TaskSays new.board before.tree.tasks before.task k) (sym same)
-            (task-again base.board new.board before.tree.tasks before.tree.tasks before.task was.before (λ f e. come-again base.board new.board before.tree.tasks before.task f (over f)) is)
-        by (inr ready) is = subst (λ k. TaskSays new.board before.tree.tasks before.task k) (sym ready) tt
+        hangs : ((m ≡ was.before) × (leads_on left ≡ None → was.before ≡ mark.Waiting (wait.Definite u) → ⊥)) ⊎ (m ≡ mark.Ready work.Settle) → HangsOn before.owner m
+        hangs (inl same) turn waits = before.hangs turn (sym same.0 ∙ waits)
+        hangs (inr ready) turn waits = let no : mark.Ready work.Settle ≡ mark.Waiting (wait.Definite turn) = sym ready ∙ waits in cc
+
+        -- its turn still runs ahead, where it waits for that
+        leads-still : (o : Option Ahead) (c : Bool) → leads_on left ≡ o → same_name before.owner u ≡ c → (o ≡ None → before.owner ≡ u → ⊥) → IsRunningAhead base before.owner → IsRunningAhead new before.owner
+        leads-still (Some k) true is e why ahead = record { ahead = k; leads = ap (λ q. named q new.aheads) (same_name-equal before.owner u e) ∙ leads_now ∙ is }
+        leads-still None true is e why ahead = absurd (why refl (same_name-equal before.owner u e))
+        leads-still o false is e why ahead = still-ahead base new before.owner (changed-others u (leads_on left) base.aheads new.aheads g.aheads before.owner (apart-of before.owner u e)) ahead
+
+        by : ((m ≡ was.before) × (leads_on left ≡ None → was.before ≡ mark.Waiting (wait.Definite u) → ⊥)) ⊎ (m ≡ mark.Ready work.Settle) → TaskSays base before.owner before.tree.tasks before.task was.before → TaskSays new before.owner before.tree.tasks before.task m
+        by (inl same) is = subst (λ k. TaskSays new before.owner before.tree.tasks before.task k) (sym same.0)
+            (task-again base new before.owner before.tree.tasks before.tree.tasks before.task was.before
+            (λ waits. leads-still (leads_on left) (same_name before.owner u) refl refl (λ none mine. same.1 none (waits ∙ ap (λ q. mark.Waiting (wait.Definite q)) mine)))
+            (λ f e. come-again base.board new.board before.tree.tasks before.task f (over f)) is)
+        by (inr ready) is = subst (λ k. TaskSays new before.owner before.tree.tasks before.task k) (sym ready) tt
 
     actors : (a : Name) (z : Actor) → piece_at new.board a ≡ Some (piece.Actor z) → z.mark ≡ actor_mark (has_turn new.taken a z.state) (mail_at new.mails a)
     actors a z at =

@@ -6,10 +6,10 @@ use Rattle.actor_mails.specs.Mails.{SameMail, mail_at}
 use Rattle.serial_model.specs.declared.halt.Halt.{Halt}
 use Rattle.serial_model.specs.State.{UnitState}
 use Rattle.shared_world.proofs.Besides.{apart-of}
-use Rattle.shared_world.proofs.Marks.{ActorsAreMarked, AreMarkedBut, IsStill, IsTaskPieceBut, come-again, same-root, same-settles, SameRoot, task-again, unit-again}
+use Rattle.shared_world.proofs.Marks.{ActorsAreMarked, AreMarkedBut, IsStill, IsTaskPieceBut, come-again, same-root, same-settles, SameRoot, still-ahead, task-again, unit-again}
 use Rattle.task_fork_join.proofs.StepShapes.{IsAfter, IsShaped}
 use Rattle.shared_world.specs.Marks as marks
-use Rattle.shared_world.specs.Marks.{AreMarked, HasPiece, IsTaskPiece, IsToCome, TaskSays, UnitSays}
+use Rattle.shared_world.specs.Marks.{AreMarked, HasPiece, IsRunningAhead, IsTaskPiece, IsToCome, TaskSays, UnitSays}
 use Rattle.shared_world.specs.rows.Actors.{actor_mark, has_turn}
 use Rattle.shared_world.specs.Shared.{Shared, finished_at, unit_state}
 use Rattle.task_fork_join.specs.Attempt.{Attempt, end_at}
@@ -103,6 +103,9 @@ module _ (old new : Shared) (marked : AreMarked old) (u task : Name) (tree after
   still : (v : Name) → IsStill old new v
   still v = record { root = roots v; ahead = ap (named v) child.aheads; settles = same-settles old new v (ap (named v) child.aheads) child.taken }
 
+  leads-still : (v : Name) → IsRunningAhead old v → IsRunningAhead new v
+  leads-still v = still-ahead old new v (ap (named v) child.aheads)
+
   units : (v : Name) (x : Doing) → unit_at new.board v ≡ Some x → UnitSays new v x x.mark
   units v x at = on (forks_it went v) refl
     where
@@ -166,7 +169,8 @@ module _ (old new : Shared) (marked : AreMarked old) (u task : Name) (tree after
         attempt = attempt-of u ∙ ap (λ c. cond c (Some after) (named u old.attempts)) (same_name-itself u);
         task = begun.task;
         among = begun.there;
-        says = λ unended why. subst (λ k. TaskSays new.board after.tasks begun.task k) is begun.going;
+        hangs = λ turn waits. let no : mark.Ready work.Eval ≡ mark.Waiting (wait.Definite turn) = is ∙ waits in cc;
+        says = λ unended why. subst (λ k. TaskSays new u after.tasks begun.task k) is begun.going;
       }
 
   -- a task that was there
@@ -184,8 +188,9 @@ module _ (old new : Shared) (marked : AreMarked old) (u task : Name) (tree after
             attempt = attempt-of is.owner ∙ ap (λ c. cond c (Some after) (named is.owner old.attempts)) o;
             task = is.task;
             among = shape.others n other (forked-not went n e) ∙ ap (λ (a : Attempt). named n a.tasks) (sym same) ∙ is.among;
-            says = λ unended why. task-again old.board new.board tree.tasks after.tasks is.task m (λ f waits come. to-come is.task f (λ ended here. why (ends_so unended ended) (waits ∙ ap (λ q. mark.Waiting (wait.Finish q)) here)) come)
-                (subst (λ (a : Attempt). TaskSays old.board a.tasks is.task m) same (is.says (ap end_at same ∙ before)));
+            hangs = is.hangs;
+            says = λ unended why. task-again old new is.owner tree.tasks after.tasks is.task m (λ e. leads-still is.owner) (λ f waits come. to-come is.task f (λ ended here. why (ends_so unended ended) (waits ∙ ap (λ q. mark.Waiting (wait.Finish q)) here)) come)
+                (subst (λ (a : Attempt). TaskSays old is.owner a.tasks is.task m) same (is.says (ap end_at same ∙ before)));
           }
       on false o = record {
         owner = is.owner;
@@ -194,7 +199,8 @@ module _ (old new : Shared) (marked : AreMarked old) (u task : Name) (tree after
         attempt = attempt-of is.owner ∙ ap (λ c. cond c (Some after) (named is.owner old.attempts)) o ∙ is.attempt;
         task = is.task;
         among = is.among;
-        says = λ unended why. task-again old.board new.board is.tree.tasks is.tree.tasks is.task m (λ f waits. come-again old.board new.board is.tree.tasks is.task f (over f)) (is.says unended);
+        hangs = is.hangs;
+        says = λ unended why. task-again old new is.owner is.tree.tasks is.tree.tasks is.task m (λ e. leads-still is.owner) (λ f waits. come-again old.board new.board is.tree.tasks is.task f (over f)) (is.says unended);
       }
 
   tasks : (n : Name) (m : Mark) (c : Bool) → forks_it went n ≡ c → (n ≡ task → ⊥) → piece_at new.board n ≡ Some (piece.Task m) → IsTaskPieceBut task ends new n m

@@ -18,7 +18,7 @@ use Rattle.shared_world.proofs.MarkedActors.{NoneTaken, acts-marked}
 use Rattle.shared_world.proofs.MarkedGone.{marked-gone}
 use Rattle.shared_world.proofs.MarkedSteps.{IsWithChild, forked-not, forked-so, forks_it, marked-step, says_ended}
 use Rattle.shared_world.proofs.MarkedUnits.{ends-going, root-piece}
-use Rattle.shared_world.proofs.Marks.{AreMarkedBut, but-one, marked-set}
+use Rattle.shared_world.proofs.Marks.{AreMarkedBut, but-one, marked-set, still-ahead}
 use Rattle.shared_world.proofs.States.{task-set}
 use Rattle.shared_world.proofs.Takings.{none-taken}
 use Rattle.task_fork_join.proofs.StepShapes.{GoesAt, IsAfter, IsShaped, WaitsPlain, shaped}
@@ -26,12 +26,12 @@ use Rattle.shared_world.proofs.Steps.{goes-with}
 use Rattle.shared_world.specs.declared.given.Given.{Given}
 use Rattle.shared_world.specs.Gave.{GaveTask}
 use Rattle.shared_world.specs.Marks as marks
-use Rattle.shared_world.specs.Marks.{AreMarked, IsTaskPiece, IsToCome, TaskSays, UnitSays}
+use Rattle.shared_world.specs.Marks.{AreMarked, HangsOn, IsTaskPiece, IsToCome, TaskSays, UnitSays}
 use Rattle.shared_world.specs.Returned.{halt_of}
 use Rattle.shared_world.specs.rows.Attempts.{Aborts, AttemptGoes, Commits, TasksGo}
 use Rattle.shared_world.specs.rows.Pieces.{IsSet, task_gone}
 use Rattle.shared_world.specs.rows.Tasks as row
-use Rattle.shared_world.specs.rows.Tasks.{AfterStep, EndGives, IsMarkedTask, Missing, RootGives, StepGives, TaskGives, outer_of}
+use Rattle.shared_world.specs.rows.Tasks.{AfterStep, EndGives, IsMarkedTask, Missing, RootGives, StepGives, TaskGives, WaitsForTurn, outer_of}
 use Rattle.task_fork_join.specs.Stepping.{is_missing}
 use Rattle.shared_world.specs.Shared.{Shared, finished_at, finished_by, is_going, state_at, unit_state}
 use Rattle.shared_world.specs.Stands.{Stands}
@@ -147,10 +147,6 @@ module _ (old : Shared) (marked : AreMarked old) (u : Name) (x : Doing) (tree af
     mails = λ a. ap (λ (s : Shared). mail_at s.mails a) r.others;
   }) (ap finished_by r.stands.mark) (λ none. subst (λ m. UnitSays new u r.unit m) (sym r.stands.mark) (inl none))
 
-  misses : (ref : Name) (o : Option Version) (found : Given) (new : Shared) → Missing base u x after ref o found new → AreMarked new
-  misses ref None found new r = absurd r
-  misses ref (Some version) found new r = aborts ref version.number found new r
-
   -- the attempt is gone, and then its effects are there
   commits : NoneTaken base → (v : Value) (found : Given) (new : Shared) → Commits base u x after v found new → AreMarked new
   commits none_taken v found new r = acts-marked u r.log.log.effects base left new left-marked refl refl refl refl refl (ap (λ (s : Shared). s.taken) r.others) r.acts nothing none_taken r.mails
@@ -182,9 +178,10 @@ module _ (old : Shared) (marked : AreMarked old) (u : Name) (x : Doing) (tree af
   ends none_taken (end.Fault failed at) found new on_going r = absurd (ends-going base _ _ found new r on_going)
   ends none_taken end.Spent found new on_going r = absurd (ends-going base _ _ found new r on_going)
 
-  pub roots : NoneTaken base → (ended : TaskEnd) (found : Given) (new : Shared) → is_going new.end ≡ true → RootGives base u x after ended found new → AreMarked new
-  roots none_taken ended found new on_going (row.valid level unchanged gives) = ends none_taken ended found new on_going gives
-  roots none_taken ended found new on_going (row.conflicts level c) = aborts c.ref c.conflict.version found new c.aborts
+  pub roots : (task : Name) (found : Given) (new : Shared) → (WaitsForTurn base u task found new → AreMarked new) → NoneTaken base → (ended : TaskEnd) → is_going new.end ≡ true → RootGives base u x task after ended found new → AreMarked new
+  roots task found new waits none_taken ended on_going (row.valid level unchanged gives) = ends none_taken ended found new on_going gives
+  roots task found new waits none_taken ended on_going (row.conflicts level c) = aborts c.ref c.conflict.version found new c.aborts
+  roots task found new waits none_taken ended on_going (row.waits r) = waits r
 
 -- the attempt as it is kept
 kept-base : (old : Shared) (u : Name) (tree : Attempt) → named u old.attempts ≡ Some tree → IsBase old u tree old
@@ -294,13 +291,14 @@ module _ (old : Shared) (st : Stands old) (marked : AreMarked old) (going : is_g
   sets : (new s : Shared) (k : Mark) → IsSet task (piece.Task k) k s.board new.board → new.attempts ≡ s.attempts → IsLeftSo s new
       → ((v : Name) → named v s.attempts ≡ cond (same_name v u) (Some after) (named v old.attempts)) → named task s.owners ≡ Some u → AreMarkedBut task (says_finished k) s
       → (says_finished k ≡ true → (v : Name) (some : Attempt) → named v s.attempts ≡ Some some → some.root ≡ task → ⊥)
-      → (end_at after ≡ None → TaskSays new.board after.tasks shape.after k) → AreMarked new
-  sets new s k set attempts left_so at owned but roots says = marked-set s new task (piece.Task k) k (record {
+      → HangsOn u k → (end_at after ≡ None → TaskSays new u after.tasks shape.after k) → AreMarked new
+  sets new s k set attempts left_so at owned but roots hangs says = marked-set s new task (piece.Task k) k (record {
     set = set;
     setup = left_so.setup;
     attempts = attempts;
     owners = left_so.owners;
     aheads = λ v other. ap (named v) left_so.aheads;
+    leads = still-ahead s new task (ap (named task) left_so.aheads);
     taken = left_so.taken;
     mails = left_so.mails;
     unfinished = λ e. finished-none new.board k set.here;
@@ -314,7 +312,8 @@ module _ (old : Shared) (st : Stands old) (marked : AreMarked old) (going : is_g
       attempt = ap (named u) attempts ∙ at u ∙ ap (λ c. cond c (Some after) (named u old.attempts)) (same_name-itself u);
       task = shape.after;
       among = shape.here;
-      says = λ unended. subst (λ q. TaskSays new.board after.tasks shape.after q) same (says unended);
+      hangs = subst (HangsOn u) same hangs;
+      says = λ unended. subst (λ q. TaskSays new u after.tasks shape.after q) same (says unended);
     };
     actor = λ a e. cc;
   }) but
@@ -335,9 +334,9 @@ module _ (old : Shared) (st : Stands old) (marked : AreMarked old) (going : is_g
   stepped-base w so none ends ends_so = marked-step old base marked u task tree after there before outer h went step.stays.root in_tree shape refl (no-child w so none) ends (λ unended e. ends_so unended (sym (ap says_ended so) ∙ e))
 
   marks-task : (new : Shared) (k : Mark) (w : Stepped) → went ≡ w → ((n : Name) → forks_it w n ≡ false) → (end_at after ≡ None → says_ended w ≡ true → says_finished k ≡ true) → IsMarkedTask base task k new
-      → (says_finished k ≡ true → (v : Name) (some : Attempt) → named v base.attempts ≡ Some some → some.root ≡ task → ⊥) → (end_at after ≡ None → TaskSays new.board after.tasks shape.after k) → AreMarked new
-  marks-task new k w so none same marked_so roots says = sets new base k marked_so.set (ap (λ (s : Shared). s.attempts) marked_so.others) (left-same base new marked_so.others)
-      attempt-of of (stepped-base w so none (says_finished k) same) roots says
+      → (says_finished k ≡ true → (v : Name) (some : Attempt) → named v base.attempts ≡ Some some → some.root ≡ task → ⊥) → HangsOn u k → (end_at after ≡ None → TaskSays new u after.tasks shape.after k) → AreMarked new
+  marks-task new k w so none same marked_so roots hangs says = sets new base k marked_so.set (ap (λ (s : Shared). s.attempts) marked_so.others) (left-same base new marked_so.others)
+      attempt-of of (stepped-base w so none (says_finished k) same) roots hangs says
 
   is-after : (w : Stepped) → went ≡ w → IsAfter tree.tasks outer h w shape.after
   is-after w so = subst (λ k. IsAfter tree.tasks outer h k shape.after) so shape.is
@@ -387,20 +386,31 @@ module _ (old : Shared) (st : Stands old) (marked : AreMarked old) (going : is_g
 
     forked : AreMarked new
     forked = sets new s (mark.Ready work.Eval) f.steps.set (ap (λ (k : Shared). k.attempts) f.steps.others) (left-same s new f.steps.others)
-        attempt-of owned (marked-step old s marked u task tree after there before outer h went step.stays.root in_tree shape refl with-child false (λ unended e. let no : false ≡ true = sym (ap says_ended so) ∙ e in cc)) (λ e. cc) (λ unended. is-after (stepped.Forked child) so)
+        attempt-of owned (marked-step old s marked u task tree after there before outer h went step.stays.root in_tree shape refl with-child false (λ unended e. let no : false ≡ true = sym (ap says_ended so) ∙ e in cc)) (λ e. cc) (λ turn e. cc) (λ unended. is-after (stepped.Forked child) so)
+
+  -- a ref is in no snapshot
+  misses : (ref : Name) → went ≡ stepped.NotInSnapshot ref → (o : Option Version) (found : Given) (new : Shared) → Missing base u x task after ref o found new → AreMarked new
+  misses ref so None found new r = marks-task new (mark.Waiting (wait.Definite u)) (stepped.NotInSnapshot ref) so (λ n. refl) (λ o e. cc) r.marked (λ e. cc) (λ turn e. let same : u ≡ turn = cc in sym same)
+      (λ o. record { going = is-after (stepped.NotInSnapshot ref) so; own = refl; leads = record { ahead = r.ahead; leads = ap (λ (s : Shared). named u s.aheads) r.marked.others ∙ r.leads } })
+  misses ref so (Some version) found new r = aborts old marked u x tree after unit_there there (has-tasks (λ n. ap (λ w. forks_it w n) so)) base is-base ref version.number found new r
 
   -- what comes of it where the root is not at its end
   comes : (found : Given) (new : Shared) (w : Stepped) → went ≡ w → end_at after ≡ None → StepGives base u x task after w found new → AreMarked new
-  comes found new stepped.Now so unended gives = marks-task new (mark.Ready work.Eval) stepped.Now so (λ n. refl) (λ o e. cc) gives.1 (λ e. cc) (λ o. is-after stepped.Now so)
+  comes found new stepped.Now so unended gives = marks-task new (mark.Ready work.Eval) stepped.Now so (λ n. refl) (λ o e. cc) gives.1 (λ e. cc) (λ turn e. cc) (λ o. is-after stepped.Now so)
   comes found new (stepped.Forked child) so unended gives = forked new child so gives.1
-  comes found new (stepped.WaitJoin f) so unended gives = marks-task new (mark.Waiting (wait.Finish f)) (stepped.WaitJoin f) so (λ n. refl) (λ o e. cc) gives.1 (λ e. cc)
+  comes found new (stepped.WaitJoin f) so unended gives = marks-task new (mark.Waiting (wait.Finish f)) (stepped.WaitJoin f) so (λ n. refl) (λ o e. cc) gives.1 (λ e. cc) (λ turn e. cc)
       (λ o. record { going = (is-after (stepped.WaitJoin f) so).0; to_come = waits-still new f so gives.1.set })
-  comes found new (stepped.NotInSnapshot ref) so unended gives = misses old marked u x tree after unit_there there (has-tasks (λ n. ap (λ w. forks_it w n) so)) base is-base ref (newest (versions_of old.versions ref)) found new gives
-  comes found new stepped.Finished so unended gives = marks-task new (mark.Finished value.Nil) stepped.Finished so (λ n. refl) (λ o e. refl) gives.1 (λ e. no-root base attempt-of unended (is-after stepped.Finished so)) (λ o. is-after stepped.Finished so)
+  comes found new (stepped.NotInSnapshot ref) so unended gives = misses ref so (newest (versions_of old.versions ref)) found new gives
+  comes found new stepped.Finished so unended gives = marks-task new (mark.Finished value.Nil) stepped.Finished so (λ n. refl) (λ o e. refl) gives.1 (λ e. no-root base attempt-of unended (is-after stepped.Finished so)) (λ turn e. cc) (λ o. is-after stepped.Finished so)
+
+  -- where the root is at its end nothing is said of a task that is not finished
+  ended-marked : (new : Shared) (ended : TaskEnd) → end_at after ≡ Some ended → (k : Mark) → says_finished k ≡ false → HangsOn u k → IsMarkedTask base task k new → AreMarked new
+  ended-marked new ended is_ended k unfinished hangs marked_so = marks-task new k went refl (no-fork ended is_ended) (λ unended e. let no : None ≡ Some ended = sym unended ∙ is_ended in cc) marked_so
+      (λ e. let no : true ≡ false = sym e ∙ unfinished in cc) hangs (λ unended. let no : None ≡ Some ended = sym unended ∙ is_ended in cc)
 
   pub step-marked : (found : Given) (new : Shared) (o : Option TaskEnd) → end_at after ≡ o → is_going new.end ≡ true → AfterStep base u x task after went o found new → AreMarked new
   step-marked found new None unended on_going gives = comes found new went refl unended gives
-  step-marked found new (Some ended) is_ended on_going gives = roots old marked u x tree after unit_there there (has-tasks (no-fork ended is_ended)) base is-base (λ a none. none-taken old st a (ap actor_of_piece none)) ended found new on_going gives
+  step-marked found new (Some ended) is_ended on_going gives = roots old marked u x tree after unit_there there (has-tasks (no-fork ended is_ended)) base is-base task found new (λ r. ended-marked new ended is_ended (mark.Waiting (wait.Definite u)) refl (λ turn e. let same : u ≡ turn = cc in sym same) r.marked) (λ a none. none-taken old st a (ap actor_of_piece none)) ended on_going gives
 
   -- The mark of the task stays for want of memory, where it waits for a ref.
   module _ (new : Shared) (held : is_missing went ≡ true) (stays : piece_at new.board task ≡ Some (piece.Task m)) (others : (q : Name) → (q ≡ task → ⊥) → piece_at new.board q ≡ piece_at old.board q) (rest : new ≡ record base { board = new.board }) where
@@ -416,8 +426,10 @@ module _ (old : Shared) (st : Stands old) (marked : AreMarked old) (going : is_g
     own-task : own.task ≡ in_tree.0
     own-task = let both : Some own.task ≡ Some in_tree.0 = sym own.among ∙ ap (λ (a : Attempt). named task a.tasks) own-tree ∙ in_tree.1 in cc
 
-    says-so : TaskSays old.board tree.tasks in_tree.0 m
-    says-so = subst (λ (k : Task). TaskSays old.board tree.tasks k m) own-task (subst (λ (a : Attempt). TaskSays old.board a.tasks own.task m) own-tree (own.says (ap end_at own-tree ∙ before)))
+    says-so : TaskSays old u tree.tasks in_tree.0 m
+    says-so =
+        subst (λ (k : Task). TaskSays old u tree.tasks k m) own-task
+        (subst (λ (a : Attempt). TaskSays old u a.tasks own.task m) own-tree (subst (λ q. TaskSays old q own.tree.tasks own.task m) mine (own.says (ap end_at own-tree ∙ before))))
 
     goes : IsGoing shape.after.stage
     goes = by went refl held
@@ -470,20 +482,20 @@ module _ (old : Shared) (st : Stands old) (marked : AreMarked old) (going : is_g
             (ap (λ k. if is_known k f then named f after.tasks else None) (shape.knows held in_tree.0 in_tree.1) ∙ ap (λ o. if is_known in_tree.0.knows f then o else None) (same-others (apart-of f task e)) ∙ unknown)
             (finished-same f none)
 
-    keeps : (q : Mark) → m ≡ q → says_finished q ≡ false → ((p : Option Piece) → Rattle.unit_table.specs.Piece.beside task q p ≡ p) → (end_at after ≡ None → TaskSays new.board after.tasks shape.after q) → AreMarked new
-    keeps q is_m unfinished plain says = marks-task new q went refl no-forks (λ o e. let no : true ≡ false = sym e ∙ no-end in cc)
+    keeps : (q : Mark) → m ≡ q → says_finished q ≡ false → ((p : Option Piece) → Rattle.unit_table.specs.Piece.beside task q p ≡ p) → HangsOn u q → (end_at after ≡ None → TaskSays new u after.tasks shape.after q) → AreMarked new
+    keeps q is_m unfinished plain hangs says = marks-task new q went refl no-forks (λ o e. let no : true ≡ false = sym e ∙ no-end in cc)
         (record { set = record { here = stays ∙ ap (λ k. Some (piece.Task k)) is_m; others = λ n other. others n other ∙ sym (plain (piece_at old.board n)) }; others = rest })
-        (λ e. let no : true ≡ false = sym e ∙ unfinished in cc) says
+        (λ e. let no : true ≡ false = sym e ∙ unfinished in cc) hangs says
 
     pub left-missing : AreMarked new
     left-missing = by m refl says-so
       where
-        by : (q : Mark) → m ≡ q → TaskSays old.board tree.tasks in_tree.0 q → AreMarked new
-        by (mark.Ready work.Eval) e says = keeps (mark.Ready work.Eval) e refl (λ p. refl) (λ o. goes)
-        by (mark.Ready work.Settle) e says = keeps (mark.Ready work.Settle) e refl (λ p. refl) (λ o. tt)
+        by : (q : Mark) → m ≡ q → TaskSays old u tree.tasks in_tree.0 q → AreMarked new
+        by (mark.Ready work.Eval) e says = keeps (mark.Ready work.Eval) e refl (λ p. refl) (λ turn w. cc) (λ o. goes)
+        by (mark.Ready work.Settle) e says = keeps (mark.Ready work.Settle) e refl (λ p. refl) (λ turn w. cc) (λ o. tt)
         by (mark.Ready work.Begin) e says = absurd says
-        by (mark.Waiting (wait.Finish f)) e says = keeps (mark.Waiting (wait.Finish f)) e refl (λ p. refl) (λ o. record { going = goes; to_come = comes-still f says.to_come })
-        by (mark.Waiting (wait.Definite t)) e says = absurd says
+        by (mark.Waiting (wait.Finish f)) e says = keeps (mark.Waiting (wait.Finish f)) e refl (λ p. refl) (λ turn w. cc) (λ o. record { going = goes; to_come = comes-still f says.to_come })
+        by (mark.Waiting (wait.Definite t)) e says = keeps (mark.Waiting (wait.Definite t)) e refl (λ p. refl) (λ turn w. own.hangs turn (e ∙ w) ∙ mine) (λ o. record { going = goes; own = says.own; leads = still-ahead old new u (ap (λ (s : Shared). named u s.aheads) rest) says.leads })
         by mark.Resting e says = absurd says
         by (mark.Finished v) e says =
             let it = goes-with tree task machine is in
@@ -494,40 +506,47 @@ module _ (old : Shared) (st : Stands old) (marked : AreMarked old) (going : is_g
 
   -- It can be evaluated again for want of memory, where it waits for a finish.
   pub left-again : (new : Shared) (f : Name) → went ≡ stepped.WaitJoin f → IsMarkedTask base task (mark.Ready work.Eval) new → AreMarked new
-  left-again new f so marked_so = marks-task new (mark.Ready work.Eval) (stepped.WaitJoin f) so (λ n. refl) (λ o e. cc) marked_so (λ e. cc) (λ o. (is-after (stepped.WaitJoin f) so).0)
+  left-again new f so marked_so = marks-task new (mark.Ready work.Eval) (stepped.WaitJoin f) so (λ n. refl) (λ o e. cc) marked_so (λ e. cc) (λ turn e. cc) (λ o. (is-after (stepped.WaitJoin f) so).0)
 
   -- It is ready to settle for want of memory, where the root is at its end.
   pub left-ended : (new : Shared) (ended : TaskEnd) → end_at after ≡ Some ended → IsMarkedTask base task (mark.Ready work.Settle) new → AreMarked new
-  left-ended new ended is_ended marked_so = marks-task new (mark.Ready work.Settle) went refl (no-fork ended is_ended) (λ unended e. let no : None ≡ Some ended = sym unended ∙ is_ended in cc) marked_so (λ e. cc) (λ o. tt)
+  left-ended new ended is_ended = ended-marked new ended is_ended (mark.Ready work.Settle) refl (λ turn e. cc)
 
--- A task of an attempt whose root is at its end is ready to settle.
-pub left-settling : (old : Shared) → AreMarked old → (task : Name) (m : Mark) → piece_at old.board task ≡ Some (piece.Task m) → (new : Shared) → IsMarkedTask old task (mark.Ready work.Settle) new → AreMarked new
-left-settling old marked task m at_task new is = marked-set old new task (piece.Task (mark.Ready work.Settle)) (mark.Ready work.Settle) (record {
+-- The mark of a task is set that is not finished: of it nothing is said, or what holds.
+pub left-marked : (old : Shared) (marked : AreMarked old) (task : Name) (m : Mark) (at_task : piece_at old.board task ≡ Some (piece.Task m)) (k : Mark) → says_finished k ≡ false → (new : Shared)
+    → HangsOn (marked.tasks task m at_task).owner k → (end_at (marked.tasks task m at_task).tree ≡ None → TaskSays new (marked.tasks task m at_task).owner (marked.tasks task m at_task).tree.tasks (marked.tasks task m at_task).task k) → IsMarkedTask old task k new → AreMarked new
+left-marked old marked task m at_task k unended new hangs says is = marked-set old new task (piece.Task k) k (record {
   set = is.set;
   setup = ap (λ (s : Shared). s.setup) is.others;
   attempts = ap (λ (s : Shared). s.attempts) is.others;
   owners = ap (λ (s : Shared). s.owners) is.others;
   aheads = λ v other. ap (λ (s : Shared). named v s.aheads) is.others;
+  leads = still-ahead old new task (ap (λ (s : Shared). named task s.aheads) is.others);
   taken = ap (λ (s : Shared). s.taken) is.others;
   mails = λ a. ap (λ (s : Shared). mail_at s.mails a) is.others;
   unfinished = λ e. ap (λ p. option_and_then (λ (k : UnitState). k.finished) (option_map unit_state (option_and_then unit_in p))) is.set.here;
-  no_root = λ e. cc;
-  stays = λ k e. refl;
+  no_root = λ e. let no : true ≡ false = sym e ∙ unended in cc;
+  stays = λ j e. refl;
   unit = λ y e. cc;
-  task = λ k e. let same : mark.Ready work.Settle ≡ k = cc in record {
+  task = λ j e. let same : k ≡ j = cc in record {
     owner = own.owner;
     of = ap (λ (s : Shared). named task s.owners) is.others ∙ own.of;
     tree = own.tree;
     attempt = ap (λ (s : Shared). named own.owner s.attempts) is.others ∙ own.attempt;
     task = own.task;
     among = own.among;
-    says = λ unended. subst (λ q. TaskSays new.board own.tree.tasks own.task q) same tt;
+    hangs = subst (HangsOn own.owner) same hangs;
+    says = λ unended. subst (λ q. TaskSays new own.owner own.tree.tasks own.task q) same (says unended);
   };
   actor = λ a e. cc;
-}) (but-one old task false marked)
+}) (but-one old task (says_finished k) marked)
   where
     own : IsTaskPiece old task m
     own = marked.tasks task m at_task
+
+-- A task of an attempt whose root is at its end is ready to settle.
+pub left-settling : (old : Shared) → AreMarked old → (task : Name) (m : Mark) → piece_at old.board task ≡ Some (piece.Task m) → (new : Shared) → IsMarkedTask old task (mark.Ready work.Settle) new → AreMarked new
+left-settling old marked task m at_task new is = left-marked old marked task m at_task (mark.Ready work.Settle) refl new (λ turn e. cc) (λ unended. tt) is
 
 -- whatever a task comes to
 pub marked-task : (old : Shared) → Stands old → AreMarked old → old.end ≡ None → (name : Name) (found : Given) (new : Shared) → is_going new.end ≡ true → GaveTask old name found new → AreMarked new
@@ -536,7 +555,21 @@ marked-task old st marked unended name found new on_going g = on (end_at g.tree)
     going : is_going old.end ≡ true
     going = ap is_going unended
 
+    -- the mark says nothing there, as the root is at its end
+    waits : (ended : TaskEnd) → end_at g.tree ≡ Some ended → WaitsForTurn old g.owner name found new → AreMarked new
+    waits ended is r = left-marked old marked name g.mark g.there (mark.Waiting (wait.Definite g.owner)) refl new (λ turn e. let same : g.owner ≡ turn = cc in sym same ∙ sym mine) (λ unended. let no : None ≡ Some ended = sym unended ∙ ap end_at own-tree ∙ is in cc) r.marked
+      where
+        own : IsTaskPiece old name g.mark
+        own = marked.tasks name g.mark g.there
+
+        mine : own.owner ≡ g.owner
+        mine = let owners : Some own.owner ≡ Some g.owner = sym own.of ∙ g.of in cc
+
+        own-tree : own.tree ≡ g.tree
+        own-tree =
+            let both : Some own.tree ≡ Some g.tree = sym own.attempt ∙ ap (λ q. named q old.attempts) mine ∙ g.attempt in cc
+
     on : (ended : Option TaskEnd) (machine : Option Evaluation) → end_at g.tree ≡ ended → machine_of g.tree name ≡ machine → TaskGives old g.owner g.unit name g.tree ended machine found new → AreMarked new
     on None (Some machine) before is r = step-marked old st marked going g.owner name g.unit g.tree g.mark g.there g.of g.unit_there g.attempt before machine r.moved is r.after r.went r.step found new (end_at r.after) refl on_going r.comes
     on None None before is r = absurd r
-    on (Some ended) machine before is r = roots old marked g.owner g.unit g.tree g.tree g.unit_there g.attempt (same-tasks old g.owner g.tree) old (kept-base old g.owner g.tree g.attempt) (λ a none. none-taken old st a (ap actor_of_piece none)) ended found new on_going r
+    on (Some ended) machine before is r = roots old marked g.owner g.unit g.tree g.tree g.unit_there g.attempt (same-tasks old g.owner g.tree) old (kept-base old g.owner g.tree g.attempt) name found new (waits ended before) (λ a none. none-taken old st a (ap actor_of_piece none)) ended on_going r

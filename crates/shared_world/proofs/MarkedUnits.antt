@@ -1,7 +1,7 @@
 -- How the marks stay right where a unit does something.
 use Rattle.std.proofs.Common.{◌≡◌, ◌∙◌, ◌⊎◌, ◌==◌, Bool, true, false, cond, List, [], ◌∷◌, ◌++◌, refl, suc, sym, ap, ap₂, subst}
 use Rattle.std.specs.Option.{option_and_then, option_map}
-use Rattle.std.specs.Prelude.{Option, None, Some, is_some, ℕ}
+use Rattle.std.specs.Prelude.{Option, None, Some, ℕ}
 use Rattle.actor_mails.specs.Mails.{SameMail, mail_at}
 use Rattle.core_syntax.specs.declared.node_id.NodeId.{NodeId}
 use Rattle.serial_model.specs.declared.end.End.{End}
@@ -15,7 +15,8 @@ use Rattle.shared_world.proofs.ActorPieces.{actor_of_piece}
 use Rattle.shared_world.proofs.Besides.{apart-of}
 use Rattle.shared_world.proofs.Live.{no-piece, unit-piece}
 use Rattle.shared_world.proofs.MarkedActors.{actor-placed, actor-sent, has-last}
-use Rattle.shared_world.proofs.Marks.{AreMarkedBut, IsRightSet, IsSameButActors, SameRoot, but-one, but_actor, come-again, marked-actors, marked-set, same-but, same-root, same-settles, same-task, unfinished-mark, task-again, unit-again}
+use Rattle.shared_world.proofs.Marks.{AreMarkedBut, IsRightSet, IsSameButActors, SameRoot, but-one, but_actor, come-again, marked-actors, marked-set, same-but, same-root, same-settles, same-task, still-ahead, unfinished-mark, task-again, unit-again}
+use Rattle.shared_world.proofs.Standing.{root-in}
 use Rattle.shared_world.proofs.States.{unit-set}
 use Rattle.shared_world.proofs.Takings.{none-taken, turn-free}
 use Rattle.shared_world.proofs.Units.{IsHere, no-attempt}
@@ -28,8 +29,8 @@ use Rattle.shared_world.specs.rows.Leading.{can_settle, settles_next}
 use Rattle.shared_world.specs.rows.Pieces.{EndsBy, Settles, mark_after}
 use Rattle.shared_world.specs.rows.Units.{Becomes, Derefs, Finishes, Forks, ForksIfAllowed, Joins, Selves, Tries, UnitGives, Waits}
 use Rattle.shared_world.specs.Shared.{Shared, actor_of, finished_at, finished_by, is_going, ref_now, state_at, unit_state}
-use Rattle.shared_world.specs.Stands.{IsUnderWay, Stands}
-use Rattle.task_fork_join.specs.Attempt.{Attempt, tasks_of, tree_task}
+use Rattle.shared_world.specs.Stands.{Stands}
+use Rattle.task_fork_join.specs.Attempt.{Attempt}
 use Rattle.task_fork_join.specs.declared.task.Task.{Task}
 use Rattle.task_fork_join.specs.Joining.{IsGoing}
 use Rattle.unit_table.specs.Board.{Board, IsPutAt, piece_at, unit_at}
@@ -43,7 +44,6 @@ use Rattle.unit_table.specs.declared.piece.Piece.TheVariants as piece
 use Rattle.unit_table.specs.declared.unit.Unit.{Unit as Doing}
 use Rattle.unit_table.specs.Piece.{says_finished, unit_in}
 use Rattle.value_core.proofs.NamedLaws.{named-here, named-with_named, same_name-equal, same_name-itself}
-use Rattle.value_core.proofs.NamedViews.{named-each_as}
 use Rattle.value_core.specs.declared.value.Value.{Value}
 use Rattle.value_core.specs.Named.{Name, named, same_name, with_named}
 use Rattle.value_core.specs.Place.{Spot}
@@ -55,17 +55,7 @@ AsksElse old x = (body : NodeId) (values : List Value) (at : Spot) → next_of o
 
 -- the root of an attempt is one of its tasks
 pub root-there : (s : Shared) (st : Stands s) → is_going s.end ≡ true → (v : Name) (tree : Attempt) → named v s.attempts ≡ Some tree → (t : Task) × (named tree.root tree.tasks ≡ Some t)
-root-there s st going v tree there = on (named tree.root tree.tasks) refl
-  where
-    way : IsUnderWay s v tree
-    way = st.attempts going v tree there
-
-    rooted : is_some (named tree.root (tasks_of tree.tasks)) ≡ true
-    rooted = ap (λ n. is_some (named n (tasks_of tree.tasks))) way.runs.root ∙ way.runs.runs.rooted
-
-    on : (found : Option Task) → named tree.root tree.tasks ≡ found → (t : Task) × (named tree.root tree.tasks ≡ Some t)
-    on (Some t) is = (t, is)
-    on None is = let no : false ≡ true = sym (ap is_some (named-each_as tree_task tree.root tree.tasks ∙ ap (option_map tree_task) is)) ∙ rooted in cc
+root-there s st going v tree there = root-in s v tree (st.attempts going v tree there)
 
 -- so what is the root of an attempt is a task's piece
 pub root-piece : (s : Shared) (st : Stands s) → is_going s.end ≡ true → AreMarked s → (v : Name) (tree : Attempt) → named v s.attempts ≡ Some tree → HasPiece s v tree.root
@@ -108,6 +98,10 @@ module _ (old new : Shared) (all : AreMarked old) (c : Name) (child : Doing) (se
   }) (λ f waits. over f)
       (all.units v x (sym (ap (option_and_then unit_in) (put.others v (apart-of v c e))) ∙ at))
 
+  -- an attempt is of another unit
+  owns : (v : Name) (tree : Attempt) → named v old.attempts ≡ Some tree → v ≡ c → ⊥
+  owns v tree at same = let no : None ≡ Some tree = sym none ∙ ap (λ n. named n old.attempts) (sym same) ∙ at in cc
+
   tasks : (n : Name) (m : Mark) (b : Bool) → same_name n c ≡ b → piece_at new.board n ≡ Some (piece.Task m) → IsTaskPiece new n m
   tasks n m true e at = let no : Some (piece.Unit child) ≡ Some (piece.Task m) = sym (ap (piece_at new.board) (same_name-equal n c e) ∙ put.here) ∙ at in cc
   tasks n m false e at = let is = all.tasks n m (sym (put.others n (apart-of n c e)) ∙ at) in record {
@@ -117,7 +111,8 @@ module _ (old new : Shared) (all : AreMarked old) (c : Name) (child : Doing) (se
     attempt = attempt-same is.owner ∙ is.attempt;
     task = is.task;
     among = is.among;
-    says = λ unended. task-again old.board new.board is.tree.tasks is.tree.tasks is.task m (λ f waits. come-again old.board new.board is.tree.tasks is.task f (over f)) (is.says unended);
+    hangs = is.hangs;
+    says = λ unended. task-again old new is.owner is.tree.tasks is.tree.tasks is.task m (λ w. still-ahead old new is.owner (aheads is.owner (owns is.owner is.tree is.attempt))) (λ f waits. come-again old.board new.board is.tree.tasks is.task f (over f)) (is.says unended);
   }
 
   actors : (a : Name) (z : Actor) (b : Bool) → same_name a c ≡ b → piece_at new.board a ≡ Some (piece.Actor z) → z.mark ≡ actor_mark (has_turn new.taken a z.state) (mail_at new.mails a)
@@ -156,6 +151,7 @@ module _ (old : Shared) (st : Stands old) (all : AreMarked old) (u : Name) (x : 
     attempts = ap (λ (s : Shared). s.attempts) r.others;
     owners = ap (λ (s : Shared). s.owners) r.others;
     aheads = λ v other. ap (λ (s : Shared). named v s.aheads) r.others;
+    leads = still-ahead base new u (ap (λ (s : Shared). named u s.aheads) r.others);
     taken = ap (λ (s : Shared). s.taken) r.others;
     mails = λ a. ap (λ (s : Shared). mail_at s.mails a) r.others;
     unfinished = λ e. ap (λ p. option_and_then (λ (k : UnitState). k.finished) (option_map unit_state (option_and_then unit_in p))) r.set.here ∙ ap finished_by r.stands.mark ∙ unended after.finished e;
@@ -196,6 +192,7 @@ module _ (old : Shared) (st : Stands old) (all : AreMarked old) (u : Name) (x : 
       attempts = ap (λ (s : Shared). s.attempts) r.others;
       owners = ap (λ (s : Shared). s.owners) r.others;
       aheads = λ v other. ap (λ (s : Shared). named v s.aheads) r.others;
+      leads = still-ahead old new u (ap (λ (s : Shared). named u s.aheads) r.others);
       taken = ap (λ (s : Shared). s.taken) r.others;
       mails = λ a. ap (λ (s : Shared). mail_at s.mails a) r.others;
       unfinished = λ e. over u (ap (λ o. option_and_then (λ (k : UnitState). k.finished) o) here.there ∙ here.unfinished);
@@ -282,7 +279,8 @@ module _ (old : Shared) (all : AreMarked old) (u : Name) (x : Doing) (at_u : uni
         attempt = attempt-of u ∙ ap (λ c. cond c (Some r.tree) (named u old.attempts)) (same_name-itself u);
         task = task;
         among = task-is n ∙ ap (λ c. cond c (Some task) None) e;
-        says = λ unended. subst (λ k. marks.TaskSays r.board r.tree.tasks task k) so (subst (λ g. IsGoing g) (sym r.fresh.new.alone.goes) tt);
+        hangs = λ turn waits. let no : mark.Ready work.Eval ≡ mark.Waiting (wait.Definite turn) = so ∙ waits in cc;
+        says = λ unended. subst (λ k. marks.TaskSays s u r.tree.tasks task k) so (subst (λ g. IsGoing g) (sym r.fresh.new.alone.goes) tt);
       }
   begun-tasks n m false e is = on (same_name before.owner u) refl
     where
@@ -298,7 +296,8 @@ module _ (old : Shared) (all : AreMarked old) (u : Name) (x : Doing) (at_u : uni
         attempt = attempt-of before.owner ∙ ap (λ c. cond c (Some r.tree) (named before.owner old.attempts)) o ∙ before.attempt;
         task = before.task;
         among = before.among;
-        says = λ unended. task-again old.board r.board before.tree.tasks before.tree.tasks before.task m (λ f waits. come-again old.board r.board before.tree.tasks before.task f (begun f)) (before.says unended);
+        hangs = before.hangs;
+        says = λ unended. task-again old s before.owner before.tree.tasks before.tree.tasks before.task m (λ w. still-ahead old s before.owner refl) (λ f waits. come-again old.board r.board before.tree.tasks before.task f (begun f)) (before.says unended);
       }
 
   begun-actors : (a : Name) (z : Actor) (c : Bool) → same_name a root ≡ c → piece_at r.board a ≡ Some (piece.Actor z) → z.mark ≡ actor_mark (has_turn old.taken a z.state) (mail_at old.mails a)
@@ -337,7 +336,7 @@ module _ (old : Shared) (all : AreMarked old) (u : Name) (x : Doing) (at_u : uni
   begun-but : AreMarkedBut u false s
   begun-but = record {
     units = λ v z other is. begun-units v z (same_name v root) refl other is;
-    tasks = λ n m other is. let so = begun-tasks n m (same_name n root) refl is in record { owner = so.owner; of = so.of; tree = so.tree; attempt = so.attempt; task = so.task; among = so.among; says = λ unended why. so.says unended };
+    tasks = λ n m other is. let so = begun-tasks n m (same_name n root) refl is in record { owner = so.owner; of = so.of; tree = so.tree; attempt = so.attempt; task = so.task; among = so.among; hangs = so.hangs; says = λ unended why. so.says unended };
     actors = λ a z is. begun-actors a z (same_name a root) refl is;
     pieces = λ v tree is n t among. begun-pieces v tree (same_name v u) refl is n t among;
   }
@@ -357,6 +356,7 @@ module _ (old : Shared) (all : AreMarked old) (u : Name) (x : Doing) (at_u : uni
     attempts = r.attempts;
     owners = r.owners;
     aheads = λ v other. ap (λ (k : Shared). named v k.aheads) r.others;
+    leads = still-ahead s new u (ap (λ (k : Shared). named u k.aheads) r.others);
     taken = ap (λ (k : Shared). k.taken) r.others;
     mails = λ a. ap (λ (k : Shared). mail_at k.mails a) r.others;
     unfinished = λ e. ap (λ p. option_and_then (λ (k : UnitState). k.finished) (option_map unit_state (option_and_then unit_in p))) r.waits.set.here ∙ ap finished_by r.waits.stands.mark ∙ unfinished-mark m unended;

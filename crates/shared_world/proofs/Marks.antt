@@ -11,7 +11,8 @@ use Rattle.serial_model.specs.Step.{next_of}
 use Rattle.shared_world.proofs.Besides.{IsWas, WasTask, WasUnit, apart-of, was-actor, was-task, was-unit, task-beside}
 use Rattle.shared_world.proofs.States.{beside-same}
 use Rattle.shared_world.specs.Marks as marks
-use Rattle.shared_world.specs.Marks.{AreMarked, HasMarks, HasPiece, IsTaskPiece, IsToCome, TaskSays, UnitSays, UnitWaits}
+use Rattle.shared_world.specs.Ahead.{Ahead}
+use Rattle.shared_world.specs.Marks.{AreMarked, HangsOn, HasMarks, HasPiece, IsRunningAhead, IsTaskPiece, IsToCome, TaskSays, UnitSays, UnitWaits}
 use Rattle.shared_world.specs.rows.Actors.{actor_mark, has_turn}
 use Rattle.shared_world.specs.rows.Leading.{can_settle, settles_next}
 use Rattle.shared_world.specs.rows.Pieces.{IsSet}
@@ -101,16 +102,21 @@ unit-like s u x y mark.Resting same is = absurd is
 unit-like s u x y (mark.Finished v) same is = is
 unit-like s u x y mark.Dropped same is = absurd is
 
+-- a turn that ran ahead still does, where the same is said of it
+pub still-ahead : (old new : Shared) (turn : Name) → named turn new.aheads ≡ named turn old.aheads → IsRunningAhead old turn → IsRunningAhead new turn
+still-ahead old new turn same is = record { ahead = is.ahead; leads = same ∙ is.leads }
+
 -- the mark of a task that stays says the same
-pub task-again : (b c : Board) (tasks after : Named Task) (t : Task) (m : Mark) → ((f : Name) → m ≡ mark.Waiting (wait.Finish f) → IsToCome b tasks t f → IsToCome c after t f) → TaskSays b tasks t m → TaskSays c after t m
-task-again b c tasks after t (mark.Ready work.Eval) still is = is
-task-again b c tasks after t (mark.Ready work.Settle) still is = tt
-task-again b c tasks after t (mark.Ready work.Begin) still is = absurd is
-task-again b c tasks after t (mark.Waiting (wait.Finish f)) still is = record { going = is.going; to_come = still f refl is.to_come }
-task-again b c tasks after t (mark.Waiting (wait.Definite u)) still is = absurd is
-task-again b c tasks after t mark.Resting still is = absurd is
-task-again b c tasks after t (mark.Finished v) still is = is
-task-again b c tasks after t mark.Dropped still is = absurd is
+pub task-again : (old new : Shared) (owner : Name) (tasks after : Named Task) (t : Task) (m : Mark) → (m ≡ mark.Waiting (wait.Definite owner) → IsRunningAhead old owner → IsRunningAhead new owner)
+    → ((f : Name) → m ≡ mark.Waiting (wait.Finish f) → IsToCome old.board tasks t f → IsToCome new.board after t f) → TaskSays old owner tasks t m → TaskSays new owner after t m
+task-again old new owner tasks after t (mark.Ready work.Eval) leads still is = is
+task-again old new owner tasks after t (mark.Ready work.Settle) leads still is = tt
+task-again old new owner tasks after t (mark.Ready work.Begin) leads still is = absurd is
+task-again old new owner tasks after t (mark.Waiting (wait.Finish f)) leads still is = record { going = is.going; to_come = still f refl is.to_come }
+task-again old new owner tasks after t (mark.Waiting (wait.Definite turn)) leads still is = record { going = is.going; own = is.own; leads = leads (ap (λ q. mark.Waiting (wait.Definite q)) is.own) is.leads }
+task-again old new owner tasks after t mark.Resting leads still is = absurd is
+task-again old new owner tasks after t (mark.Finished v) leads still is = is
+task-again old new owner tasks after t mark.Dropped leads still is = absurd is
 
 -- and so does what it waits for, where the tasks of its attempt stay
 pub come-again : (b c : Board) (tasks : Named Task) (t : Task) (f : Name) → (finished_at b f ≡ None → finished_at c f ≡ None) → IsToCome b tasks t f → IsToCome c tasks t f
@@ -125,7 +131,8 @@ pub record IsTaskPieceBut (name : Name) (ends : Bool) (s : Shared) (n : Name) (m
   pub attempt : named owner s.attempts ≡ Some tree
   pub task : Task
   pub among : named n tree.tasks ≡ Some task
-  pub says : end_at tree ≡ None → (ends ≡ true → m ≡ mark.Waiting (wait.Finish name) → ⊥) → TaskSays s.board tree.tasks task m
+  pub hangs : HangsOn owner m
+  pub says : end_at tree ≡ None → (ends ≡ true → m ≡ mark.Waiting (wait.Finish name) → ⊥) → TaskSays s owner tree.tasks task m
 
 -- the mark of each actor is right
 abbrev pub ActorsAreMarked : Shared → Type 0
@@ -203,7 +210,8 @@ task-piece-same old new n m same is = record {
   attempt = same.attempts is.owner ∙ is.attempt;
   task = is.task;
   among = is.among;
-  says = λ unended. task-again old.board new.board is.tree.tasks is.tree.tasks is.task m (λ f e. come-again old.board new.board is.tree.tasks is.task f (λ none. same-finished old new same f ∙ none)) (is.says unended);
+  hangs = is.hangs;
+  says = λ unended. task-again old new is.owner is.tree.tasks is.tree.tasks is.task m (λ e. still-ahead old new is.owner (ap (named is.owner) same.aheads)) (λ f e. come-again old.board new.board is.tree.tasks is.task f (λ none. same-finished old new same f ∙ none)) (is.says unended);
 }
 
 unit-same : (old new : Shared) (u : Name) (x : Doing) → IsSameButActors old new → UnitSays old u x x.mark → UnitSays new u x x.mark
@@ -241,7 +249,7 @@ marked-same old new same all = marked-actors old new (same-but old new same all)
 pub but-one : (s : Shared) (name : Name) (ends : Bool) → AreMarked s → AreMarkedBut name ends s
 but-one s name ends all = record {
   units = λ u x other there. all.units u x there;
-  tasks = λ n m other there. let is = all.tasks n m there in record { owner = is.owner; of = is.of; tree = is.tree; attempt = is.attempt; task = is.task; among = is.among; says = λ unended why. is.says unended };
+  tasks = λ n m other there. let is = all.tasks n m there in record { owner = is.owner; of = is.of; tree = is.tree; attempt = is.attempt; task = is.task; among = is.among; hangs = is.hangs; says = λ unended why. is.says unended };
   actors = all.actors;
   pieces = all.pieces;
 }
@@ -259,13 +267,14 @@ pieces-marks old new same rest marks going = marked-same old new (record {
 }) (marks (sym (ap (λ (s : Shared). is_going s.end) rest) ∙ going))
 
 -- What is set under a name: its mark is the one that is set, and is right; no unit is finished by another mark; where it is
--- finished it is the root of no attempt; and a task stays one.
+-- finished it is the root of no attempt; a turn that ran ahead still does; and a task stays one.
 pub record IsRightSet (s new : Shared) (name : Name) (p : Piece) (m : Mark) : Type 0 where
   pub set : IsSet name p m s.board new.board
   pub setup : new.setup ≡ s.setup
   pub attempts : new.attempts ≡ s.attempts
   pub owners : new.owners ≡ s.owners
   pub aheads : (v : Name) → (v ≡ name → ⊥) → named v new.aheads ≡ named v s.aheads
+  pub leads : IsRunningAhead s name → IsRunningAhead new name
   pub taken : new.taken ≡ s.taken
   pub mails : SameMail s.mails new.mails
   pub unfinished : says_finished m ≡ false → finished_at new.board name ≡ None
@@ -336,6 +345,7 @@ module _ (s new : Shared) (name : Name) (p : Piece) (m : Mark) (is : IsRightSet 
     attempt = ap (named before.owner) is.attempts ∙ before.attempt;
     task = before.task;
     among = before.among;
+    hangs = hangs was.was;
     says = λ unended. on unended was.was;
   }
     where
@@ -348,11 +358,19 @@ module _ (s new : Shared) (name : Name) (p : Piece) (m : Mark) (is : IsRightSet 
       before : IsTaskPieceBut name (says_finished m) s n was.mark
       before = all.tasks n was.mark other was.there
 
-      on : end_at before.tree ≡ None → IsWas name m was.mark k → TaskSays new.board before.tree.tasks before.task k
-      on unended (inl w) = subst (λ j. TaskSays new.board before.tree.tasks before.task j) (sym w.0)
-          (task-again s.board new.board before.tree.tasks before.tree.tasks before.task was.mark (λ f e. come-again s.board new.board before.tree.tasks before.task f (over f (λ here. w.1 (e ∙ ap (λ q. mark.Waiting (wait.Finish q)) here))))
+      leads : (d : Bool) → same_name before.owner name ≡ d → IsRunningAhead s before.owner → IsRunningAhead new before.owner
+      leads true e ahead = subst (IsRunningAhead new) (sym (same_name-equal before.owner name e)) (is.leads (subst (IsRunningAhead s) (same_name-equal before.owner name e) ahead))
+      leads false e ahead = still-ahead s new before.owner (is.aheads before.owner (apart-of before.owner name e)) ahead
+
+      hangs : IsWas name m was.mark k → HangsOn before.owner k
+      hangs (inl w) turn waits = before.hangs turn (sym w.0 ∙ waits)
+      hangs (inr w) turn waits = let no : mark.Ready work.Settle ≡ mark.Waiting (wait.Definite turn) = sym w.1 ∙ waits in cc
+
+      on : end_at before.tree ≡ None → IsWas name m was.mark k → TaskSays new before.owner before.tree.tasks before.task k
+      on unended (inl w) = subst (λ j. TaskSays new before.owner before.tree.tasks before.task j) (sym w.0)
+          (task-again s new before.owner before.tree.tasks before.tree.tasks before.task was.mark (λ e. leads (same_name before.owner name) refl) (λ f e. come-again s.board new.board before.tree.tasks before.task f (over f (λ here. w.1 (e ∙ ap (λ q. mark.Waiting (wait.Finish q)) here))))
           (before.says unended (λ ends waits. let no : true ≡ false = sym ends ∙ w.1 waits in cc)))
-      on unended (inr w) = subst (λ j. TaskSays new.board before.tree.tasks before.task j) (sym w.1) tt
+      on unended (inr w) = subst (λ j. TaskSays new before.owner before.tree.tasks before.task j) (sym w.1) tt
 
   actors : (a : Name) (x : Actor) (c : Bool) → same_name a name ≡ c → piece_at new.board a ≡ Some (piece.Actor x) → x.mark ≡ actor_mark (has_turn new.taken a x.state) (mail_at new.mails a)
   actors a x true e there =

@@ -23,7 +23,7 @@ use Rattle.shared_world.specs.rows.Actors.{acted, roused_unless, spawned}
 use Rattle.shared_world.specs.rows.Attempts.{Aborts, IsWithout, TasksGo}
 use Rattle.shared_world.specs.rows.Pieces.{Ends, IsSet, Settles, task_gone}
 use Rattle.shared_world.specs.rows.Tasks as row
-use Rattle.shared_world.specs.rows.Tasks.{AfterStep, EndGives, IsMarkedTask, Missing, RootGives, StepGives, TaskGives}
+use Rattle.shared_world.specs.rows.Tasks.{AfterStep, EndGives, IsMarkedTask, Missing, RootGives, StepGives, TaskGives, WaitsForTurn}
 use Rattle.shared_world.specs.rows.Turns.{GaveActor, TakesIfAllowed}
 use Rattle.shared_world.specs.rows.Units.{Becomes, Derefs, Finishes, ForksIfAllowed, Joins, Selves, Tries, UnitGives}
 use Rattle.shared_world.specs.Shared.{Shared, actor_of, finished_at, ref_now, unit_state}
@@ -346,25 +346,29 @@ module _ (base : Shared) (u : Name) (x : Unit) (was : is_unfinished base.board u
   end-spread (end.Fault code at) r = task-ends-spread _ r
   end-spread end.Spent r = task-ends-spread _ r
 
-  root-spread : (e : TaskEnd) → RootGives base u x tree e found new → TaskSpread
-  root-spread e (row.valid level all r) = end-spread e r
-  root-spread e (row.conflicts level r) = aborts-spread r.ref r.conflict.version r.aborts
+  waits-spread : (task : Name) → WaitsForTurn base u task found new → TaskSpread
+  waits-spread task r = marked-spread task _ base refl (λ n is. is) (λ e so. let no = sym r.found_is ∙ so in cc) r.marked
 
-  missing-spread : (ref : Name) (version : Option Version) → Missing base u x tree ref version found new → TaskSpread
-  missing-spread ref None r = absurd r
-  missing-spread ref (Some version) r = aborts-spread ref version.number r
+  root-spread : (task : Name) (e : TaskEnd) → RootGives base u x task tree e found new → TaskSpread
+  root-spread task e (row.valid level all r) = end-spread e r
+  root-spread task e (row.conflicts level r) = aborts-spread r.ref r.conflict.version r.aborts
+  root-spread task e (row.waits r) = waits-spread task r
+
+  missing-spread : (task ref : Name) (version : Option Version) → Missing base u x task tree ref version found new → TaskSpread
+  missing-spread task ref None r = waits-spread task r
+  missing-spread task ref (Some version) r = aborts-spread ref version.number r
 
   step-spread : (task : Name) (went : Stepped) → StepGives base u x task tree went found new → TaskSpread
   step-spread task stepped_as.Now r = marked-spread task _ base refl (λ n is. is) (λ e so. let no = sym r.0 ∙ so in cc) r.1
   step-spread task (stepped_as.Forked child) r =
       marked-spread task _ (record base { owners = with_named base.owners child u; board = r.1.board }) refl (put-opens child _ base.board r.1.board r.1.put (λ e. never e)) (λ e so. let no = sym r.0 ∙ so in cc) r.1.steps
   step-spread task (stepped_as.WaitJoin future) r = marked-spread task _ base refl (λ n is. is) (λ e so. let no = sym r.0 ∙ so in cc) r.1
-  step-spread task (stepped_as.NotInSnapshot ref) r = missing-spread ref (newest (versions_of base.versions ref)) r
+  step-spread task (stepped_as.NotInSnapshot ref) r = missing-spread task ref (newest (versions_of base.versions ref)) r
   step-spread task stepped_as.Finished r = marked-spread task _ base refl (λ n is. is) (λ e so. let no = sym r.0 ∙ so in cc) r.1
 
   after-spread : (task : Name) (went : Stepped) (ended : Option TaskEnd) → AfterStep base u x task tree went ended found new → TaskSpread
   after-spread task went None r = step-spread task went r
-  after-spread task went (Some e) r = root-spread e r
+  after-spread task went (Some e) r = root-spread task e r
 
 -- the attempt took a step first
 moved-spread : (old : Shared) (u : Name) (after : Attempt) (found : Given) (new : Shared) → IsSome (named u old.attempts) → IsTaskSpread (record old { attempts = with_named old.attempts u after }) u found new → IsTaskSpread old u found new
@@ -383,7 +387,7 @@ task-spread : (old : Shared) (u : Name) (x : Unit) → is_unfinished old.board u
 task-spread old u x was task tree there None (Some machine) found new r =
     moved-spread old u r.after found new (subst IsSome (sym there) refl) (after-spread (record old { attempts = with_named old.attempts u r.after }) u x was r.after found new task r.went (end_at r.after) r.comes)
 task-spread old u x was task tree there None None found new r = absurd r
-task-spread old u x was task tree there (Some ended) machine found new r = root-spread old u x was tree found new ended r
+task-spread old u x was task tree there (Some ended) machine found new r = root-spread old u x was tree found new task ended r
 
 -- what a task comes to of the attempt of a unit that is not finished
 pub gave-task-spread : (old : Shared) (name : Name) (found : Given) (new : Shared) (g : GaveTask old name found new) → is_unfinished old.board g.owner ≡ true → IsTaskSpread old g.owner found new

@@ -1,7 +1,7 @@
 -- How what is kept stands on, where parts of it change.
 use Rattle.std.proofs.Common.{◌≡◌, ◌∙◌, ◌≤◌, ℕ, suc, length, length-append, append-nil, le_refl, Bool, true, false, cond, List, [], ◌∷◌, ◌++◌, refl, sym, ap, subst, arith}
 use Rattle.std.specs.Option.{option_and_then, option_map, option_or}
-use Rattle.std.specs.Prelude.{Option, None, Some}
+use Rattle.std.specs.Prelude.{Option, None, Some, is_some}
 use Rattle.actor_mails.specs.Mails.{Mail, SameMail, mail_at}
 use Rattle.core_syntax.specs.WellFormed.{IsWellFormed}
 use Rattle.ref_store.proofs.StoreLaws.{versions_committed, written}
@@ -18,15 +18,19 @@ use Rattle.serial_model.specs.State.{Setup, UnitState}
 use Rattle.serial_model.specs.Step.{next_of}
 use Rattle.shared_world.proofs.ActorPieces.{SameActors, same-pieces-actors}
 use Rattle.shared_world.proofs.Leading.{ahead-still, seen-again, seen-same}
+use Rattle.shared_world.proofs.OfTurns.{sent-same}
 use Rattle.shared_world.specs.Ahead.{Ahead}
 use Rattle.shared_world.specs.Seen.{AttemptSeen, live_at, one_or_none}
+use Rattle.shared_world.specs.Sent.{AreSent}
 use Rattle.shared_world.specs.Shared.{Shared, finished_at, is_going, ref_now, state_at}
 use Rattle.shared_world.specs.Stands.{IsAheadAt, IsMachine, IsUnderWay, Stands, start_of}
 use Rattle.shared_world.proofs.States.{EachMachine, SameStates, machines-same, same-pieces}
-use Rattle.task_fork_join.specs.Attempt.{Attempt}
+use Rattle.task_fork_join.specs.Attempt.{Attempt, tasks_of, tree_task}
+use Rattle.task_fork_join.specs.declared.task.Task.{Task}
 use Rattle.task_fork_join.specs.Running.{IsRun}
 use Rattle.txn_snapshot.specs.SnapshotAnswer.{snapshot_of}
 use Rattle.unit_table.specs.Board.{Board, SamePieces, actor_at}
+use Rattle.value_core.proofs.NamedViews.{named-each_as}
 use Rattle.value_core.specs.declared.value.Value.{Value}
 use Rattle.value_core.specs.Named.{Name, Named, Rises, named, same_name}
 use Rattle.value_core.specs.Place.{Spot}
@@ -76,6 +80,17 @@ under-way old new u tree setup state reads grows longer is = record {
   within = omega (arith, longer, is.within);
 }
 
+-- the root of an attempt is one of its tasks
+pub root-in : (s : Shared) (u : Name) (tree : Attempt) → IsUnderWay s u tree → (t : Task) × (named tree.root tree.tasks ≡ Some t)
+root-in s u tree way = on (named tree.root tree.tasks) refl
+  where
+    rooted : is_some (named tree.root (tasks_of tree.tasks)) ≡ true
+    rooted = ap (λ n. is_some (named n (tasks_of tree.tasks))) way.runs.root ∙ way.runs.runs.rooted
+
+    on : (found : Option Task) → named tree.root tree.tasks ≡ found → (t : Task) × (named tree.root tree.tasks ≡ Some t)
+    on (Some t) is = (t, is)
+    on None is = let no : false ≡ true = sym (ap is_some (named-each_as tree_task tree.root tree.tasks ∙ ap (option_map tree_task) is)) ∙ rooted in cc
+
 -- the refs now are those after as many entries as there are
 pub now-is-newest : (n : ℕ) (versions : Named (List Version)) → IsAbove (suc n) versions → (r : Name) → snapshot_of versions n r ≡ ref_now versions r
 now-is-newest n versions above r = ap (option_map (λ (v : Version). v.value)) (late_at n (versions_of versions r) (λ k d in_range. let below = above r k d in_range in omega (arith, below)))
@@ -124,6 +139,7 @@ stands-on old st b mails owners same actors machines mail = record {
   attempts = λ going v tree there. under-way old (record old { board = b; mails = mails; owners = owners }) v tree refl (same v) (λ r. refl) (λ f v is. ap (option_and_then (λ (unit : UnitState). unit.finished)) (same f) ∙ is) (le_refl (length old.history)) (st.attempts going v tree there);
   numbers = st.numbers;
   aheads = λ u h is. ahead-still old.board b u h (same u) (st.aheads u h is);
+  sent = sent-same old.taken old.mails mails mail st.sent;
 }
 
 -- pieces that the meaning sees as those that were there
@@ -161,6 +177,7 @@ ended old st entry e b same is_world = record {
   attempts = λ going v tree there. cc;
   numbers = λ r k d in_range. let long = length-append old.history (entry ∷ []) in let below = st.numbers r k d in_range in omega (arith, long, below);
   aheads = λ u h is. ahead-still old.board b u h (same-pieces old.board b same u) (st.aheads u h is);
+  sent = st.sent;
 }
 
 -- What is so of what is kept after an answer that leaves the attempts as they are, beside the world that is seen in it.
@@ -186,6 +203,7 @@ pub record IsNext (old : Shared) (st : Stands old) (new : Shared) (w2 : World) :
   pub reads : (v : Name) (tree : Attempt) → named v old.attempts ≡ Some tree → (r : Name) → snapshot_of new.versions tree.snapshot r ≡ snapshot_of old.versions tree.snapshot r
   pub numbers : IsAbove (suc (length new.history)) new.versions
   pub aheads : (u : Name) (h : Ahead) → named u new.aheads ≡ Some h → IsAheadAt new.board u h
+  pub sent : AreSent new.taken new.mails
 
 pub stands-next : (old : Shared) (st : Stands old) (new : Shared) (w2 : World) → IsNext old st new w2 → Stands new
 stands-next old st new w2 is = record {
@@ -211,6 +229,7 @@ stands-next old st new w2 is = record {
       under-way old new v tree is.setup (is.stay v tree before) (is.reads v tree before) is.grows is.longer (st.attempts (went going) v tree before);
   numbers = is.numbers;
   aheads = is.aheads;
+  sent = is.sent;
 }
   where
     went : is_going new.end ≡ true → is_going old.end ≡ true

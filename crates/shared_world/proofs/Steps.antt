@@ -1,9 +1,12 @@
 -- A step of a task keeps what is kept standing.
-use Rattle.std.proofs.Common.{◌≡◌, ◌∙◌, ◌≤◌, Bool, true, false, cond, length, le_refl, refl, sym, ap, subst}
+use Rattle.std.proofs.Common.{◌≡◌, ◌∙◌, ◌≤◌, Bool, true, false, cond, length, le_refl, List, ◌++◌, refl, sym, ap, subst}
 use Rattle.std.specs.Option.{option_and_then}
 use Rattle.std.specs.Prelude.{Option, None, Some, IfSome}
+use Rattle.core_syntax.specs.WellFormed.{IsWellFormed}
 use Rattle.eval_step.specs.Evaluation.{Evaluation, IsOf, IsSame}
+use Rattle.ref_store.specs.declared.version.Version.{Version}
 use Rattle.serial_model.proofs.evaluation.Carries.{ask-is-there}
+use Rattle.serial_model.specs.declared.effect.Effect.{Effect}
 use Rattle.serial_model.specs.declared.halt.Halt.{Halt}
 use Rattle.serial_model.specs.declared.halt.Halt.TheVariants as halt
 use Rattle.serial_model.specs.declared.request.Request.{Request}
@@ -11,15 +14,18 @@ use Rattle.serial_model.specs.declared.request.Request.TheVariants as request
 use Rattle.serial_model.specs.Carried.{IsThere}
 use Rattle.serial_model.specs.Eval.{next}
 use Rattle.serial_model.specs.Standing.{Start}
+use Rattle.shared_world.proofs.Doing.{does-more, having_done}
+use Rattle.shared_world.proofs.Gone.{SeenAs, seen-as}
 use Rattle.shared_world.proofs.Live.{no-piece}
 use Rattle.shared_world.proofs.ActorPieces.{SameActors, actor_of_piece, actors-put, actors-set}
-use Rattle.shared_world.proofs.Standing.{owners-say-nothing, same-states, under-way}
+use Rattle.shared_world.proofs.Standing.{owners-say-nothing, root-in, same-states, under-way}
 use Rattle.shared_world.proofs.States.{SameStates, machines-put, task-put, task-set, tasks-set}
 use Rattle.shared_world.specs.Returned.{halt_of}
 use Rattle.shared_world.specs.rows.Tasks.{Forked, IsMarkedTask, outer_of}
-use Rattle.shared_world.specs.Seen.{AttemptSeen}
+use Rattle.shared_world.specs.Seen.{AttemptSeen, IsSeenAttempt, done_by_root, done_in}
 use Rattle.shared_world.specs.Shared.{Shared, finished_at, is_going, state_at}
 use Rattle.shared_world.specs.Stands.{IsMachine, IsUnderWay, Stands, start_of}
+use Rattle.task_fork_join.proofs.Grown.{HasGrown, steps-grow}
 use Rattle.task_fork_join.proofs.Steps.{steps_keep_runs}
 use Rattle.task_fork_join.specs.Attempt.{Attempt, going, machine_at, machine_of}
 use Rattle.task_fork_join.specs.declared.stepped.Stepped.{Stepped}
@@ -27,7 +33,7 @@ use Rattle.task_fork_join.specs.declared.task.Stage.{Stage as KeptStage}
 use Rattle.task_fork_join.specs.declared.task.Stage.TheVariants as kept
 use Rattle.task_fork_join.specs.declared.task.Task.{Task}
 use Rattle.task_fork_join.specs.Running.{HasMachine, IsFinishedAs, IsMachine as IsTaskMachine, IsMove, IsRun, IsThereAt}
-use Rattle.task_fork_join.specs.Step.{IsStep}
+use Rattle.task_fork_join.specs.Step.{IsStep, Stays}
 use Rattle.txn_snapshot.specs.SnapshotAnswer.{snapshot_of}
 use Rattle.unit_table.specs.Board.{Board, actor_at}
 use Rattle.unit_table.specs.declared.mark.Mark.{Mark}
@@ -36,8 +42,9 @@ use Rattle.unit_table.specs.declared.mark.Work.TheVariants as work
 use Rattle.unit_table.specs.declared.piece.Piece.TheVariants as piece
 use Rattle.value_core.proofs.NamedLaws.{named-with_named, same_name-equal}
 use Rattle.value_core.specs.declared.value.Value.{Value}
-use Rattle.value_core.specs.Named.{Name, named, same_name, with_named}
+use Rattle.value_core.specs.Named.{Name, Named, named, same_name, with_named}
 use Rattle.value_core.specs.Place.{Spot}
+use Rattle.world_model.specs.rows.Attempts.{with_attempt}
 use Rattle.world_model.specs.World as world
 use Rattle.world_model.specs.World.{World}
 
@@ -88,13 +95,8 @@ finished-as b (halt.Value v) = tt
 finished-as b (halt.Fault code at) = tt
 finished-as b halt.Spent = tt
 
-module _ (old : Shared) (st : Stands old) (on_going : is_going old.end ≡ true) (u task : Name) (tree : Attempt) (there : named u old.attempts ≡ Some tree) where
-  abbrev w : World
-  w = st.world
-
-  way : IsUnderWay old u tree
-  way = st.attempts on_going u tree there
-
+-- an attempt, once a task of it has taken a step
+module _ (old : Shared) (formed : IsWellFormed old.setup.program) (u task : Name) (tree : Attempt) (way : IsUnderWay old u tree) where
   abbrev start : Start
   start = start_of old.setup u way.unit way.body way.values
 
@@ -120,15 +122,16 @@ module _ (old : Shared) (st : Stands old) (on_going : is_going old.end ≡ true)
     moves = record {
       machine = record { inside = same.task.inside ∙ member.inside; fuel = same.task.fuel ∙ member.fuel; of = of };
       halts_so = stops;
-      there = there-at start halts (λ asked at e. ask-is-there old.setup.program st.formed moved.body moved.values true moved.answers old.setup.limits.fuel asked at (stops ∙ e));
+      there = there-at start halts (λ asked at e. ask-is-there old.setup.program formed moved.body moved.values true moved.answers old.setup.limits.fuel asked at (stops ∙ e));
     }
 
     module _ (after : Attempt) (went : Stepped) (step : IsStep (snapshot_of old.versions tree.snapshot) task moved (outer_of old.board halts) halts tree after went) where
       abbrev base : Shared
       base = record old { attempts = with_named old.attempts u after }
 
-      own : IsUnderWay base u after
-      own = record {
+      -- it is under way
+      pub step-way : IsUnderWay base u after
+      step-way = record {
         unit = way.unit;
         there = way.there;
         body = way.body;
@@ -141,50 +144,86 @@ module _ (old : Shared) (st : Stands old) (on_going : is_going old.end ≡ true)
         within = subst (λ n. n ≤ length old.history) (sym step.stays.snapshot) way.within;
       }
 
-      seen : (v : Name) (c : Bool) → same_name v u ≡ c → AttemptSeen old.versions (cond c (Some after) (named v old.attempts)) (w.attempts v)
-      seen v true e = subst (λ q. AttemptSeen old.versions (Some after) (w.attempts q)) (sym (same_name-equal v u e))
-          (on (w.attempts u) (subst (λ f. AttemptSeen old.versions f (w.attempts u)) there (st.seen.attempts on_going u)))
-        where
-          on : (tried : Option world.Attempt) → AttemptSeen old.versions (Some tree) tried → AttemptSeen old.versions (Some after) tried
-          on None is_seen = is_seen
-          on (Some tried) is_seen = record {
-            root = is_seen.root ∙ sym step.stays.root;
-            snapshot = is_seen.snapshot ∙ sym step.stays.snapshot;
-            store = λ ref. is_seen.store ref ∙ ap (λ n. snapshot_of old.versions n ref) (sym step.stays.snapshot);
-            reads = is_seen.reads;
-            joined = is_seen.joined;
-            effects = is_seen.effects;
-            ended = is_seen.ended;
-          }
-      seen v false e = st.seen.attempts on_going v
+      abbrev root : (t : Task) × (named tree.root tree.tasks ≡ Some t)
+      root = root-in old u tree way
 
-      -- the attempt has taken the step
-      pub stepped : Stands base
-      stepped = record {
-        formed = st.formed;
-        world = w;
-        is_world = st.is_world;
-        seen = record {
-          history = st.seen.history;
-          refs = st.seen.refs;
-          units = st.seen.units;
-          actors = st.seen.actors;
-          taken = st.seen.taken;
-          mails = st.seen.mails;
-          attempts = λ go v. subst (λ f. AttemptSeen old.versions f (w.attempts v)) (sym (named-with_named v u after old.attempts)) (seen v (same_name v u) refl);
-          bytes = st.seen.bytes;
-          made = st.seen.made;
-          end = st.seen.end;
-        };
-        machines = st.machines;
-        attempts = λ go v other is_there. on v other (same_name v u) refl (sym (named-with_named v u after old.attempts) ∙ is_there);
-        numbers = st.numbers;
-        aheads = st.aheads;
-      }
-        where
-          on : (v : Name) (other : Attempt) (c : Bool) → same_name v u ≡ c → cond c (Some after) (named v old.attempts) ≡ Some other → IsUnderWay base v other
-          on v other true is_u e = let so : after ≡ other = cc in subst (λ q. IsUnderWay base q other) (sym (same_name-equal v u is_u)) (subst (IsUnderWay base u) so own)
-          on v other false is_u e = under-way old base v other refl refl (λ ref. refl) (λ f val fin. fin) (le_refl (length old.history)) (st.attempts on_going v other e)
+      -- its root is there, and has done no less
+      pub step-grown : HasGrown after.tasks tree.root root.0
+      step-grown = steps-grow (snapshot_of old.versions tree.snapshot) task moved (outer_of old.board halts) tree after went with_machine.task with_machine.there halts step.comes tree.root root.0 root.1
+
+      pub done-so : done_by_root after ≡ done_by_root tree ++ step-grown.grown.more
+      done-so = ap done_in (ap (λ n. named n after.tasks) step.stays.root ∙ step-grown.there) ∙ step-grown.grown.whole ∙ ap (λ es. es ++ step-grown.grown.more) (sym (ap done_in root.1))
+
+-- what is seen of an attempt once its root has done these, and is not at its end
+pub seen-stepped : (versions : Named (List Version)) (tree after : Attempt) (tried : world.Attempt) (es : List Effect) → Stays tree after → IsSeenAttempt versions tree tried → es ≡ done_by_root after → IsSeenAttempt versions after (having_done tried es)
+seen-stepped versions tree after tried es stays is done = record {
+  root = is.root ∙ sym stays.root;
+  snapshot = is.snapshot ∙ sym stays.snapshot;
+  store = λ ref. is.store ref ∙ ap (λ n. snapshot_of versions n ref) (sym stays.snapshot);
+  reads = is.reads;
+  joined = is.joined;
+  effects = done;
+  ended = refl;
+}
+
+-- what is kept stands with that
+module _ (old : Shared) (st : Stands old) (on_going : is_going old.end ≡ true) (u task : Name) (tree : Attempt) (there : named u old.attempts ≡ Some tree) (machine moved : Evaluation) (is : machine_of tree task ≡ Some machine) (same : IsSame machine moved)
+    (of : IsOf old.setup.program moved) (after : Attempt) (went : Stepped) (step : IsStep (snapshot_of old.versions tree.snapshot) task moved (outer_of old.board (halt_of old.setup.program machine)) (halt_of old.setup.program machine) tree after went) where
+  abbrev w : World
+  w = st.world
+
+  abbrev after_step : Shared
+  after_step = record old { attempts = with_named old.attempts u after }
+
+  abbrev way : IsUnderWay old u tree
+  way = st.attempts on_going u tree there
+
+  own : IsUnderWay after_step u after
+  own = step-way old st.formed u task tree way machine moved is same of after went step
+
+  -- what the root has done more
+  abbrev more : List Effect
+  more = (step-grown old st.formed u task tree way machine moved is same of after went step).grown.more
+
+  tried : SeenAs old w u tree
+  tried = seen-as old st on_going u tree there
+
+  abbrev w2 : World
+  w2 = with_attempt w u (having_done tried.tried (tried.tried.effects ++ more))
+
+  seen : (v : Name) (c : Bool) → AttemptSeen old.versions (cond c (Some after) (named v old.attempts)) (cond c (Some (having_done tried.tried (tried.tried.effects ++ more))) (w.attempts v))
+  seen v true = seen-stepped old.versions tree after tried.tried (tried.tried.effects ++ more) step.stays tried.is
+      (ap (λ es. es ++ more) tried.is.effects ∙ sym (done-so old st.formed u task tree way machine moved is same of after went step))
+  seen v false = st.seen.attempts on_going v
+
+  -- the attempt has taken the step
+  pub stepped : Stands after_step
+  stepped = record {
+    formed = st.formed;
+    world = w2;
+    is_world = does-more old.setup w st.is_world u tried.tried tried.there more;
+    seen = record {
+      history = st.seen.history;
+      refs = st.seen.refs;
+      units = st.seen.units;
+      actors = st.seen.actors;
+      taken = st.seen.taken;
+      mails = st.seen.mails;
+      attempts = λ go v. subst (λ f. AttemptSeen old.versions f (w2.attempts v)) (sym (named-with_named v u after old.attempts)) (seen v (same_name v u));
+      bytes = st.seen.bytes;
+      made = st.seen.made;
+      end = st.seen.end;
+    };
+    machines = st.machines;
+    attempts = λ go v other is_there. on v other (same_name v u) refl (sym (named-with_named v u after old.attempts) ∙ is_there);
+    numbers = st.numbers;
+    aheads = st.aheads;
+    sent = st.sent;
+  }
+    where
+      on : (v : Name) (other : Attempt) (c : Bool) → same_name v u ≡ c → cond c (Some after) (named v old.attempts) ≡ Some other → IsUnderWay after_step v other
+      on v other true is_u e = let so : after ≡ other = cc in subst (λ q. IsUnderWay after_step q other) (sym (same_name-equal v u is_u)) (subst (IsUnderWay after_step u) so own)
+      on v other false is_u e = under-way old after_step v other refl refl (λ ref. refl) (λ f val fin. fin) (le_refl (length old.history)) (st.attempts on_going v other e)
 
 -- neither a unit nor an actor stands under the name
 abbrev pub NeitherAt : Board → Name → Type 0

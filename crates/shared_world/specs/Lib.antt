@@ -10,5 +10,6 @@ pub mod Rest
 pub mod Returned
 pub mod Seen
 pub mod Shared
+pub mod Sent
 pub mod Stands
 pub mod rows

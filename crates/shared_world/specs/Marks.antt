@@ -55,15 +55,33 @@ pub record TaskWaits (b : Board) (tasks : Named Task) (t : Task) (f : Name) : Ty
   pub going : IsGoing t.stage
   pub to_come : IsToCome b tasks t f
 
--- a task that can be evaluated goes on, and one that is finished has ended
-abbrev pub TaskSays : Board → Named Task → Task → Mark → Type 0
-TaskSays b tasks t (mark.Ready work.Eval) = IsGoing t.stage
-TaskSays b tasks t (mark.Ready work.Settle) = Unit {0}
-TaskSays b tasks t (mark.Waiting (wait.Finish f)) = TaskWaits b tasks t f
-TaskSays b tasks t (mark.Finished v) = end_of t.stage ≡ None → ⊥
-TaskSays b tasks t _ = ⊥
+-- a turn that runs ahead
+pub record IsRunningAhead (s : Shared) (turn : Name) : Type 0 where
+  pub ahead : Ahead
+  pub leads : named turn s.aheads ≡ Some ahead
 
--- the piece of a task: it is of the attempt of its unit; and while the root of that is not at its end, its mark says where it is
+-- it has not ended, and that turn is its unit, which runs ahead
+pub record TurnWaits (s : Shared) (owner : Name) (t : Task) (turn : Name) : Type 0 where
+  pub going : IsGoing t.stage
+  pub own : turn ≡ owner
+  pub leads : IsRunningAhead s owner
+
+-- A task of the attempt of that unit that can be evaluated goes on, and one that is finished has ended; one waits for the turn that its
+-- unit is while that runs ahead.
+abbrev pub TaskSays : Shared → Name → Named Task → Task → Mark → Type 0
+TaskSays s owner tasks t (mark.Ready work.Eval) = IsGoing t.stage
+TaskSays s owner tasks t (mark.Ready work.Settle) = Unit {0}
+TaskSays s owner tasks t (mark.Waiting (wait.Finish f)) = TaskWaits s.board tasks t f
+TaskSays s owner tasks t (mark.Waiting (wait.Definite turn)) = TurnWaits s owner t turn
+TaskSays s owner tasks t (mark.Finished v) = end_of t.stage ≡ None → ⊥
+TaskSays s owner tasks t _ = ⊥
+
+-- where the mark says that a turn is waited for, that is this one
+abbrev pub HangsOn : Name → Mark → Type 0
+HangsOn owner m = (turn : Name) → m ≡ mark.Waiting (wait.Definite turn) → turn ≡ owner
+
+-- the piece of a task: it is of the attempt of its unit, and waits for no other turn; and while the root of that is not at its end, its
+-- mark says where it is
 pub record IsTaskPiece (s : Shared) (n : Name) (m : Mark) : Type 0 where
   pub owner : Name
   pub of : named n s.owners ≡ Some owner
@@ -71,7 +89,8 @@ pub record IsTaskPiece (s : Shared) (n : Name) (m : Mark) : Type 0 where
   pub attempt : named owner s.attempts ≡ Some tree
   pub task : Task
   pub among : named n tree.tasks ≡ Some task
-  pub says : end_at tree ≡ None → TaskSays s.board tree.tasks task m
+  pub hangs : HangsOn owner m
+  pub says : end_at tree ≡ None → TaskSays s owner tree.tasks task m
 
 -- a task of the attempt of that unit is a piece
 pub record HasPiece (s : Shared) (u n : Name) : Type 0 where

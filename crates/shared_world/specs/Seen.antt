@@ -4,10 +4,12 @@ use Rattle.std.specs.Option.{option_map}
 use Rattle.actor_mailbox.specs.declared.message.Message.{Message}
 use Rattle.actor_mails.specs.Mails.{mail_at}
 use Rattle.ref_store.specs.declared.version.Version.{Version}
+use Rattle.serial_model.specs.declared.effect.Effect.{Effect}
 use Rattle.serial_model.specs.State.{UnitState}
 use Rattle.shared_world.specs.Ahead.{Ahead}
 use Rattle.shared_world.specs.Shared.{Shared, becoming_of, is_going, ref_now, state_at}
 use Rattle.task_fork_join.specs.Attempt.{Attempt}
+use Rattle.task_fork_join.specs.declared.task.Task.{Task}
 use Rattle.txn_snapshot.specs.SnapshotAnswer.{snapshot_of}
 use Rattle.unit_table.specs.Board.{actor_at}
 use Rattle.value_core.specs.Named.{Name, Named, named}
@@ -31,14 +33,24 @@ abbrev pub one_or_none : Option Message → List Message
 one_or_none None = []
 one_or_none (Some m) = m ∷ []
 
--- An attempt as it began: on the refs at its snapshot. What its tasks have done since is in the tasks alone, until it commits.
+-- what a task has done
+abbrev pub done_in : Option Task → List Effect
+done_in None = []
+done_in (Some t) = t.log.log.effects
+
+-- what the root of an attempt has done so far
+abbrev pub done_by_root : Attempt → List Effect
+done_by_root tree = done_in (named tree.root tree.tasks)
+
+-- An attempt on the refs at its snapshot, with what its root has done so far. What its tasks have read and written, and how it ends, is
+-- in the tasks alone, until it commits.
 pub record IsSeenAttempt (versions : Named (List Version)) (tree : Attempt) (tried : world.Attempt) : Type 0 where
   pub root : tried.root ≡ tree.root
   pub snapshot : tried.snapshot ≡ tree.snapshot
   pub store : (r : Name) → tried.store r ≡ snapshot_of versions tree.snapshot r
   pub reads : tried.reads ≡ []
   pub joined : tried.joined ≡ []
-  pub effects : tried.effects ≡ []
+  pub effects : tried.effects ≡ done_by_root tree
   pub ended : tried.ended ≡ None
 
 abbrev pub AttemptSeen : Named (List Version) → Option Attempt → Option world.Attempt → Type 0

@@ -1,5 +1,6 @@
 //! Laws of the world as it is kept.
 ghost use Rattle.shared_world.specs.Laws.{AbortsAreFew, AbortsAreLate, AttemptsAge, GaveAppends, GaveKeeps, GaveMarks, OpeningMarks, OpeningStands, OthersAreReady, OverAtRest};
+ghost use Rattle.shared_world.specs.rows.Sending.{StepsSendingBear};
 
 /// Whatever a result that is given back comes to, what is kept stands for the replay of its history afterwards.
 pub fn gave_keeps()
@@ -50,4 +51,9 @@ pub fn attempts_age()
 /// In a run the attempts of a unit are undone at most as often as entries are settled.
 pub fn aborts_are_few()
     ensures { AbortsAreFew }
+{}
+
+/// Where a root's sends are put at once, what stands whatever is put still does.
+pub fn steps_sending_bear()
+    ensures { StepsSendingBear }
 {}

@@ -3,12 +3,14 @@ pub mod Begins
 pub mod Closes
 pub mod Ends
 pub mod Forks
+pub mod Grown
 pub mod Halts
 pub mod Joins
 pub mod KeptTasks
 pub mod Kinship
 pub mod Members
 pub mod Missing
+pub mod Nexts
 pub mod Replying
 pub mod Staying
 pub mod StepShapes

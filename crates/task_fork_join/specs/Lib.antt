@@ -1,5 +1,6 @@
 pub mod Attempt
 pub mod Closing
+pub mod Following
 pub mod Forking
 pub mod Joining
 pub mod Knowledge

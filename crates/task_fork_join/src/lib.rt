@@ -4,6 +4,7 @@
 mod answering;
 mod closing;
 mod copies;
+mod following;
 mod forking;
 mod joining;
 mod known;

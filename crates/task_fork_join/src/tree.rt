@@ -1,9 +1,10 @@
-ghost use Rattle.std.specs.Prelude.{◌≡◌, ◌∷◌, [], true, IfOk, OnErr, OnOk, Some};
+ghost use Rattle.std.specs.Prelude.{◌≡◌, ◌∷◌, [], true, IfNone, IfOk, IfSome, OnErr, OnOk, Some};
 ghost use Rattle.std.specs.Option.{option_copied};
 ghost use Rattle.eval_step.specs.Evaluation.{IsAsking};
 ghost use Rattle.serial_model.specs.Carried.{IsInner};
 ghost use Rattle.task_fork_join.specs.Attempt.{end_at, names_in, next_made_at, machine_of, unless_escaping, IsKept, IsNew, IsRootAlone, IsRootLog};
 ghost use Rattle.task_fork_join.specs.Closing.{IsClose};
+ghost use Rattle.task_fork_join.specs.Following.{names_after};
 ghost use Rattle.task_fork_join.specs.Forking.{CameFork};
 ghost use Rattle.task_fork_join.specs.Joining.{IsEnded, IsJoin};
 ghost use Rattle.task_fork_join.specs.Stepping.{IsActed};
@@ -14,6 +15,7 @@ ghost use Rattle.value_core.specs.Named.{named};
 use crate::answering::answer;
 use crate::closing::close;
 use crate::copies::copy_tasks;
+use crate::following::next_task;
 use crate::forking::{begins, copy_actor, fork, new_log};
 use crate::joining::join;
 use crate::known::Known;
@@ -376,6 +378,22 @@ impl Tree {
         ensures { IsRootLog self.now result.now }
     {
         &self.root_task().log
+    }
+
+    /// The name of the root. It takes no memory.
+    pub fn root_name(&self) -> &Name
+        ensures { result.now ≡ self.now.root }
+    {
+        &self.root
+    }
+
+    /// The name of the first task that comes after that name in after-order, or of all where none is given. None exactly where
+    /// none is left. It takes no memory.
+    pub fn next_task(&self, after: Option<&Name>) -> Option<&Name>
+        ensures some { IfSome (option_copied result) (λ name. names_after (option_copied after.entry) self.now.tasks ≡ name ∷ names_after (Some name) self.now.tasks) }
+        ensures none { IfNone (option_copied result) (names_after (option_copied after.entry) self.now.tasks ≡ []) }
+    {
+        next_task(&self.tasks, after)
     }
 }
 

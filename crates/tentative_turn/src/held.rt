@@ -1,6 +1,7 @@
-ghost use Rattle.std.specs.Prelude.{◌≡◌, ◌↔◌, ◌+◌, [], ◌∷◌, ◌++◌, IfOk, OnErr, OnOk, drop};
+ghost use Rattle.std.specs.Prelude.{◌≡◌, ◌↔◌, ◌+◌, [], ◌∷◌, ◌++◌, IfOk, OnErr, OnOk, drop, length};
 ghost use Rattle.std.specs.List.{slice_get};
 ghost use Rattle.std.specs.Option.{option_copied};
+ghost use Rattle.tentative_turn.specs.Sending.{is_send_to, is_sent_to, sent_to};
 ghost use Rattle.tentative_turn.specs.Turn.{answered_ahead, is_turn, things_made, IsBegun, IsDosync, IsLookUp, IsMustWait, IsTake, IsTakeOf, RunsAhead};
 ghost use Rattle.tentative_turn.specs.declared.held_effect.HeldEffect.TheVariants as held;
 
@@ -101,6 +102,43 @@ impl Held {
             made: self.made,
             effects: copy_effects(alloc, &self.effects)?,
         })
+    }
+
+    /// How many of the requests that it holds send something to that actor.
+    pub fn count_sends(&self, to: &Name) -> usize
+        ensures { result ≡ length (sent_to to.now self.now.effects) }
+    {
+        count_sent(&self.effects, to)
+    }
+}
+
+/// How many of the effects are requests that send something to that actor.
+fn count_sent(effects: &VecDeque<HeldEffect>, to: &Name) -> usize
+    ensures { result ≡ length (sent_to to.now effects.now.items) }
+{
+    effects
+        .iter()
+        .filter(|effect| is_sent_to(effect, to))
+        .count()
+}
+
+/// Whether the effect is a request that sends something to that actor.
+fn is_sent_to(effect: &HeldEffect, to: &Name) -> bool
+    ensures { result ≡ is_sent_to to.now effect.now }
+{
+    match effect {
+        HeldEffect::Asked(request, _) => is_send_to(request, to),
+        HeldEffect::Take(_) => false,
+    }
+}
+
+/// Whether the request sends something to that actor.
+fn is_send_to(request: &Request, to: &Name) -> bool
+    ensures { result ≡ is_send_to to.now request.now }
+{
+    match request {
+        Request::Send(actor, _) => to == actor,
+        _ => false,
     }
 }
 

@@ -8,6 +8,6 @@ mod held;
 mod held_effect;
 
 pub use ahead::Ahead;
-pub use foretelling::count_made;
+pub use foretelling::{count_made, foretell};
 pub use held::Held;
 pub use held_effect::HeldEffect;

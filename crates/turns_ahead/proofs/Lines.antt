@@ -1,20 +1,24 @@
 -- What a turn holds: its begin, where that is held, and then its requests.
-use Rattle.std.proofs.Common.{◌≡◌, ◌∙◌, ◌++◌, ◌∷◌, [], ℕ, Bool, List, ap, ap₂, arith, refl, subst, suc, sym}
+use Rattle.std.proofs.Common.{◌≡◌, ◌∙◌, ◌++◌, ◌∷◌, [], ℕ, Bool, List, ap, ap₂, arith, cond, length, refl, subst, suc, sym, true}
 use Rattle.std.specs.List.{slice_get}
 use Rattle.std.specs.Prelude.{◌+◌, Err, IfOk, None, Ok, Option, Result, Some, drop, false}
 use Rattle.std.specs.declared.alloc.AllocError.{AllocError}
 use Rattle.serial_model.specs.declared.answer.Answer.{Answer}
 use Rattle.serial_model.specs.declared.request.Request.{Request}
 use Rattle.serial_model.specs.declared.request.Request.TheVariants as request
+use Rattle.serial_model.specs.Sends.{request_sends, sends_to}
 use Rattle.shared_world.specs.rows.Leading as rows
 use Rattle.shared_world.specs.rows.Leading.{left_after}
 use Rattle.tentative_turn.specs.declared.held_effect.HeldEffect.{HeldEffect}
 use Rattle.tentative_turn.specs.declared.held_effect.HeldEffect.TheVariants as held
 use Rattle.tentative_turn.specs.declared.ahead.Ahead.{Ahead as Foretold}
 use Rattle.tentative_turn.specs.declared.ahead.Ahead.TheVariants as foretold
+use Rattle.tentative_turn.specs.Sending.{is_send_to, sent_to}
 use Rattle.tentative_turn.specs.Turn.{Turn, answered_ahead, things_made, with_asked, IsLookUp, IsMustWait, RunsAhead}
 use Rattle.turns_ahead.specs.Leading.{Leading, ahead_of, asked, becomes_or, begins, hands_back, AreAsked, HasGone, HasSettled, IsLeftBy, IsLeftNext, IsLine}
 use Rattle.turns_ahead.specs.declared.turn_ahead.Left.{Left}
+use Rattle.value_core.specs.declared.value.Value.{Value}
+use Rattle.value_core.specs.Named.{Name, same_name}
 
 none-begins : (effects : List HeldEffect) → AreAsked effects → begins effects ≡ None
 none-begins [] is = refl
@@ -117,3 +121,28 @@ settled-so l left r answer line is at = record {
 
     by : IsLeftBy l.answers l.made r left
     by = let both : held.Asked is.r is.answer ∷ is.rest ≡ held.Asked r answer ∷ drop 1 effects = sym is.first ∙ whole in let same : is.r ≡ r = cc in subst (λ q. IsLeftBy l.answers l.made q left) same is.by
+
+-- how many of the requests send something to an actor
+pub sent-asked : (to : Name) (effects : List HeldEffect) → length (sent_to to effects) ≡ length (sends_to to (asked effects))
+sent-asked to [] = refl
+sent-asked to (held.Take entry ∷ effects) = sent-asked to effects
+sent-asked to (held.Asked r answer ∷ effects) = on r (sent-asked to effects)
+  where
+    sends : (b : Bool) (args : List Value) → length (sent_to to effects) ≡ length (sends_to to (asked effects))
+        → length (cond b (held.Asked r answer ∷ sent_to to effects) (sent_to to effects)) ≡ length (cond b (args ∷ []) [] ++ sends_to to (asked effects))
+    sends true args rest = ap suc rest
+    sends false args rest = rest
+
+    on : (q : Request) → length (sent_to to effects) ≡ length (sends_to to (asked effects))
+        → length (cond (is_send_to to q) (held.Asked r answer ∷ sent_to to effects) (sent_to to effects)) ≡ length (request_sends to q ++ sends_to to (asked effects))
+    on (request.Print text) rest = rest
+    on (request.NewRef content) rest = rest
+    on (request.Deref ref) rest = rest
+    on (request.RefSet ref content) rest = rest
+    on (request.Fork body values) rest = rest
+    on (request.Join future) rest = rest
+    on (request.Dosync body values) rest = rest
+    on (request.Spawn behaviour state) rest = rest
+    on (request.Send actor args) rest = sends (same_name to actor) args rest
+    on (request.Become behaviour state) rest = rest
+    on request.SelfActor rest = rest

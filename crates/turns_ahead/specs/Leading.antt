@@ -51,6 +51,11 @@ asked [] = []
 asked (held.Take entry ∷ effects) = asked effects
 asked (held.Asked r answer ∷ effects) = r ∷ asked effects
 
+-- the request that is the first that is held
+abbrev pub first_asked : List HeldEffect → Option Request
+first_asked (held.Asked r answer ∷ effects) = Some r
+first_asked _ = None
+
 -- all that is held are requests
 abbrev pub AreAsked : List HeldEffect → Type 0
 AreAsked [] = Unit {0}

@@ -3,4 +3,4 @@
 
 mod turn_ahead;
 
-pub use turn_ahead::TurnAhead;
+pub use turn_ahead::{Left, TurnAhead, next_becomes};

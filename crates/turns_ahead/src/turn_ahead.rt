@@ -1,8 +1,9 @@
-ghost use Rattle.std.specs.Prelude.{◌≡◌, IfOk, None, OnErr, Option, drop};
+ghost use Rattle.std.specs.Prelude.{◌≡◌, IfOk, IfSome, None, OnErr, Option, drop, is_some, length, true};
 ghost use Rattle.std.specs.Option.{option_copied, IsSome};
-ghost use Rattle.shared_world.specs.rows.Leading.{becomes_after};
+ghost use Rattle.serial_model.specs.Sends.{sends_to};
+ghost use Rattle.shared_world.specs.rows.Leading.{becomes_after, leads_on};
 ghost use Rattle.tentative_turn.specs.Turn.{is_turn, IsDosync, IsTake};
-ghost use Rattle.turns_ahead.specs.Leading.{ahead_of, becomes_or, begins, hands_back, HasBegun, HasGone, HasSettled, IsLeftBy, IsLeftNext};
+ghost use Rattle.turns_ahead.specs.Leading.{ahead_of, becomes_or, begins, first_asked, hands_back, AreAsked, HasBegun, HasGone, HasSettled, IsLeftBy, IsLeftNext};
 ghost use Rattle.unit_table.specs.declared.unit.Becoming.{Becoming as Turning};
 
 use serial_model::{Entry, Request};
@@ -89,9 +90,10 @@ impl TurnAhead {
         Ok(ahead)
     }
 
-    /// The begin of the turn is settled, where it is held. It takes no memory.
+    /// The begin of the turn is settled, where it is held: all that it holds then are requests. It takes no memory.
     pub fn settle_begin(&mut self)
         requires { IsSome (begins self.old.turn.effects) }
+        ensures asked { AreAsked self.new.turn.effects }
         ensures turn { self.new ≡ record self.old { turn = record self.old.turn { effects = drop 1 self.old.turn.effects } } }
         ensures left { ahead_of self.new ≡ record (ahead_of self.old) { takes = None } }
     {
@@ -115,8 +117,9 @@ impl TurnAhead {
         }
     }
 
-    /// Where the history leaves the turn once the first request is settled.
-    fn left_next(&self) -> Result<Left, AllocError>
+    /// Where the history leaves the turn once the first request is settled. It fails for want of memory, and where there is too
+    /// much to count, or nothing is held or the begin is.
+    pub fn left_next(&self) -> Result<Left, AllocError>
         ensures { IfOk result (IsLeftNext self.now) }
     {
         match self.held.next_held() {
@@ -135,12 +138,62 @@ impl TurnAhead {
             self.becomes = Some(becomes);
         }
     }
+
+    /// The turn waits until it is definite and holds nothing. It takes no memory.
+    pub fn wait(&mut self)
+        ensures { self.new ≡ record self.old { waits = true } }
+    {
+        self.waits = true;
+    }
+
+    /// How many of the requests that it holds send something to that actor.
+    pub fn count_sends(&self, to: &Name) -> usize
+        ensures { result ≡ length (sends_to to.now (ahead_of self.now).held) }
+    {
+        self.held.count_sends(to)
+    }
+
+    /// The request that is held first. None where its begin is held, or nothing is.
+    pub fn first_request(&self) -> Option<&Request>
+        ensures { option_copied result ≡ first_asked self.now.turn.effects }
+    {
+        match self.held.next_held() {
+            Some(HeldEffect::Asked(request, _)) => Some(request),
+            _ => None,
+        }
+    }
+
+    /// How many things it had made where the history left it.
+    pub fn left_made(&self) -> u32
+        ensures { result ≡ self.now.made }
+    {
+        self.made
+    }
+
+    /// Whether it runs ahead still, where all that it holds are requests.
+    pub fn holds(&self) -> bool
+        ensures { AreAsked self.now.turn.effects → result ≡ is_some (leads_on (ahead_of self.now)) }
+    {
+        self.held.next_held().is_some()
+    }
+
+    /// The first request that is held is settled, and the history leaves the turn there: all that it holds then are requests. It
+    /// takes no memory.
+    pub fn settle_by(&mut self, left: Left)
+        requires { IsLeftNext self.old left }
+        ensures settled { IfSome (first_asked self.old.turn.effects) (λ request. HasSettled self.old request self.new) }
+        ensures asked { AreAsked self.new.turn.effects }
+    {
+        let first = self.held.flush();
+        effect_goes(first);
+        self.leave_at(left);
+    }
 }
 
 /// How many answers the history has given, and how many things it has made; and what the actor becomes by the request, where
 /// that says so.
 #[derive(Drop)]
-pub(crate) struct Left {
+pub struct Left {
     pub(crate) answers: u64,
     pub(crate) made: u32,
     pub(crate) becomes: Option<Becoming>,
@@ -161,7 +214,7 @@ fn left_by(answers: u64, made: u32, request: &Request) -> Result<Left, AllocErro
 }
 
 /// What the actor becomes by the request, where that says so.
-fn next_becomes(request: &Request) -> Result<Option<Becoming>, AllocError>
+pub fn next_becomes(request: &Request) -> Result<Option<Becoming>, AllocError>
     ensures { IfOk result (λ next. (before : Option Turning) → becomes_or next before ≡ becomes_after request.now before) }
 {
     match request {

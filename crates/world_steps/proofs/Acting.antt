@@ -1,6 +1,7 @@
 -- What units come to that act on actors.
 use Rattle.std.proofs.Common.{◌≡◌, ◌∙◌, ℕ, Bool, false, true, cond, inl, inr, List, [], ◌∷◌, ◌++◌, refl, sym, ap, subst, suc}
-use Rattle.std.specs.Option.{option_and_then, option_map}
+use Rattle.std.specs.Borrow.{Bor}
+use Rattle.std.specs.Option.{is_some, option_and_then, option_copied, option_map}
 use Rattle.std.specs.Prelude.{Err, IfSome, None, Ok, Option, Result, Some, if◌then◌else◌}
 use Rattle.std.specs.declared.alloc.AllocError.{AllocError}
 use Rattle.actor_mails.specs.Mails.{mail_at}
@@ -10,9 +11,9 @@ use Rattle.serial_model.specs.declared.request.Request.TheVariants as request
 use Rattle.serial_model.specs.declared.actor_state.ActorState.{ActorState}
 use Rattle.serial_model.specs.State.{Becoming, UnitState}
 use Rattle.serial_model.specs.Step.{answered, idle, next_made, with_made}
-use Rattle.shared_world.proofs.States.{roused-unit}
+use Rattle.shared_world.proofs.States.{roused-is}
 use Rattle.shared_world.specs.declared.given.Given.{Given}
-use Rattle.shared_world.specs.rows.Actors.{Spawns, actor_with, roused}
+use Rattle.shared_world.specs.rows.Actors.{Spawns, actor_with, roused_unless}
 use Rattle.shared_world.specs.rows.Pieces.{ClaimsEnd, Settles, but_gone}
 use Rattle.shared_world.specs.Shared.{Shared, becoming_of, claimed, is_going, unit_state}
 use Rattle.unit_table.specs.Board.{Board, IsPutAt, SameClaims, lent_to, piece_at, unit_at}
@@ -86,10 +87,15 @@ claims-stay gone old mid new others same ends going ticket =
     on None = same.to ticket
     on (Some e) = refl
 
+-- a reference is there where what it refers to is
+pub copied-there : {X : Type 0} (o : Option (Bor X)) → is_some o ≡ is_some (option_copied o)
+copied-there None = refl
+copied-there (Some x) = refl
+
 -- units are as they were, where an actor has mail now
-pub roused-units : (old new : Board) (to : Name) → IsPutAt to (option_map roused (piece_at old to)) old new → (q : Name) → unit_at new q ≡ unit_at old q
-roused-units old new to put q = elim (same_or_not q to) [
-  | inl same ↦ ap (unit_at new) same ∙ ap (option_and_then unit_in) put.here ∙ roused-unit (piece_at old to) ∙ sym (ap (unit_at old) same)
+pub roused-units : (begun : Bool) (old new : Board) (to : Name) → IsPutAt to (roused_unless begun (piece_at old to)) old new → (q : Name) → unit_at new q ≡ unit_at old q
+roused-units begun old new to put q = elim (same_or_not q to) [
+  | inl same ↦ ap (unit_at new) same ∙ ap (option_and_then unit_in) put.here ∙ roused-is begun (piece_at old to) ∙ sym (ap (unit_at old) same)
   | inr apart ↦ ap (option_and_then unit_in) (put.others q apart)
 ]
 

@@ -1,16 +1,17 @@
 -- What the world keeps, as it is shared.
-use Rattle.std.specs.Prelude.{◌≡◌, [], None, Some}
+use Rattle.std.specs.Prelude.{◌≡◌, None, Some}
 use Rattle.std.specs.Arc.{arc_value}
 use Rattle.actor_mails.specs.Mails.{held}
 use Rattle.eval_step.specs.Evaluation.{Evaluation, IsOf, IsSame}
 use Rattle.world_steps.specs.declared.kept.Kept.{Kept}
 use Rattle.shared_world.specs.Shared.{Shared, finished_by}
 use Rattle.unit_table.specs.Board.{SameClaims, SamePieces, unit_at}
+use Rattle.turns_ahead.specs.Leading.{ahead_of}
 use Rattle.unit_table.specs.declared.unit.Unit.{Unit}
-use Rattle.value_core.specs.Named.{Name}
+use Rattle.value_core.specs.Named.{Name, each_as}
 use Rattle.value_core.specs.Placed.{filled}
 
--- no turn runs ahead of the history
+-- the messages that are taken are those in their places, and the turns that run ahead are seen without what they foretell
 abbrev pub shared_of : Kept → Shared
 shared_of k = record {
   setup = record { program = arc_value k.program; limits = k.limits };
@@ -18,8 +19,8 @@ shared_of k = record {
   versions = k.store.versions;
   board = k.units;
   mails = held k.mails;
-  taken = [];
-  aheads = [];
+  taken = filled k.taken;
+  aheads = each_as ahead_of k.aheads.entries;
   attempts = k.attempts.entries;
   owners = filled k.owners;
   bytes = k.output.items;

@@ -1,5 +1,5 @@
 -- What a call of the world comes to.
-use Rattle.std.specs.Prelude.{◌≡◌, ◌<◌, ℕ, Err, List, Ok, Result, Some, length, ⊤}
+use Rattle.std.specs.Prelude.{◌≡◌, ◌<◌, ℕ, Bool, Err, List, None, Ok, Result, Some, length, ⊤}
 use Rattle.std.specs.declared.alloc.AllocError.{AllocError}
 use Rattle.world_steps.specs.Kept.{IsSameBut}
 use Rattle.core_syntax.specs.declared.node_id.NodeId.{NodeId}
@@ -9,17 +9,22 @@ use Rattle.serial_model.specs.declared.halt.Halt.{Halt}
 use Rattle.serial_model.specs.declared.halt.Halt.TheVariants as halts
 use Rattle.serial_model.specs.declared.request.Request.TheVariants as requests
 use Rattle.serial_model.specs.State.{Becoming}
-use Rattle.serial_model.specs.Step.{answered}
+use Rattle.serial_model.specs.Step.{answered, next_made}
 use Rattle.shared_world.specs.declared.given.Given.{Given}
 use Rattle.shared_world.specs.rows.Actors.{FinishesTurn, Spawns}
+use Rattle.shared_world.specs.rows.Attempts.{BeginsMarked}
+use Rattle.shared_world.specs.rows.Leading.{mark_ahead}
 use Rattle.shared_world.specs.rows.Pieces.{ClaimsEnd, Ends, Settles}
 use Rattle.shared_world.specs.rows.Units.{Forks, UnitGives, Waits}
 use Rattle.shared_world.specs.Shared.{Shared, unit_state}
 use Rattle.unit_table.specs.Board.{unit_at}
+use Rattle.unit_table.specs.declared.mark.Mark.TheVariants as mark
+use Rattle.unit_table.specs.declared.mark.WaitOn.TheVariants as wait
 use Rattle.unit_table.specs.declared.unit.Unit.{Unit}
 use Rattle.value_core.specs.declared.value.Value.{Value}
 use Rattle.value_core.specs.declared.value.Value.TheVariants as value
-use Rattle.value_core.specs.Named.{Name, same_name}
+use Rattle.value_core.specs.Named.{Name, named, same_name}
+use Rattle.value_core.specs.Place.{Spot}
 
 -- a body that is asked for is in the table
 abbrev pub IsBodyThere : Table → Halt → Type 0
@@ -68,6 +73,17 @@ pub record HasForked (old : Shared) (name : Name) (body : NodeId) (values : List
 abbrev pub ForksOr : Shared → Name → NodeId → List Value → Shared → Result Given AllocError → Type 0
 ForksOr old name body values new (Ok found) = HasForked old name body values new found
 ForksOr old name body values new (Err e) = IsSameBut old new
+
+-- an attempt of the unit has begun, which had none, and the unit waits for its root, or is ready to settle what it holds; or for want of
+-- memory nothing changes
+pub record HasBegun (old : Shared) (name : Name) (body : NodeId) (values : List Value) (at : Spot) (settles : Bool) (new : Shared) (found : Given) : Type 0 where
+  pub free : named name old.attempts ≡ None
+  pub row : (x : Unit) → unit_at old.board name ≡ Some x → BeginsMarked old name x (mark_ahead settles (mark.Waiting (wait.Finish (next_made name (unit_state x))))) body values at found new
+  pub claims : ClaimsEnd (λ q. same_name q name) old new
+
+abbrev pub BeginsOr : Shared → Name → NodeId → List Value → Spot → Bool → Shared → Result Given AllocError → Type 0
+BeginsOr old name body values at settles new (Ok found) = HasBegun old name body values at settles new found
+BeginsOr old name body values at settles new (Err e) = IsSameBut old new
 
 -- the unit makes an actor; or for want of memory nothing changes
 pub record HasSpawned (old : Shared) (name : Name) (behaviour : ℕ) (state : List Value) (new : Shared) (found : Given) : Type 0 where

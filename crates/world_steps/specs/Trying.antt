@@ -1,5 +1,5 @@
 -- Attempts that begin, and tasks that go.
-use Rattle.std.specs.Prelude.{◌≡◌, ℕ, List, length, None, Some}
+use Rattle.std.specs.Prelude.{◌≡◌, ℕ, Bool, List, length, None, Some}
 use Rattle.core_syntax.specs.declared.node_id.NodeId.{NodeId}
 use Rattle.eval_step.specs.Evaluation.{Evaluation}
 use Rattle.world_steps.specs.declared.attempts.Trying.{Trying}
@@ -8,6 +8,7 @@ use Rattle.world_steps.specs.Kept.{IsSameBut, shared_of}
 use Rattle.shared_world.specs.declared.given.Given.{Given}
 use Rattle.shared_world.specs.declared.given.Given.TheVariants as given
 use Rattle.shared_world.specs.rows.Attempts.{IsFreshAttempt}
+use Rattle.shared_world.specs.rows.Leading.{mark_ahead}
 use Rattle.shared_world.specs.Shared.{Shared}
 use Rattle.world_steps.specs.Moved.{IsMoved}
 use Rattle.task_fork_join.specs.Attempt.{Attempt}
@@ -54,11 +55,11 @@ pub record HasTried (old : Shared) (k : Kept) (name : Name) (body : NodeId) (val
   pub same : IsSameBut old (record (shared_of k) { attempts = old.attempts })
   pub attempts : k.attempts.entries ≡ with_named old.attempts name tree
 
--- the root is there, and its unit waits for it
-pub record HasRoot (old : Shared) (name : Name) (moved : Evaluation) (t : Trying) (new : Shared) (found : Given) : Type 0 where
+-- the root is there, and its unit waits for it, or is ready to settle what it holds
+pub record HasRoot (old : Shared) (name : Name) (moved : Evaluation) (t : Trying) (settles : Bool) (new : Shared) (found : Given) : Type 0 where
   pub found_is : found ≡ given.Began t.snapshot
   pub board : Board
   pub put : IsPutAt t.root (Some (piece.Task (mark.Ready work.Eval))) old.board board
   pub kept : SameClaims old.board board
-  pub moves : (x : Unit) → unit_at old.board name ≡ Some x → IsMoved name x moved x.made (mark.Waiting (wait.Finish t.wait)) board new.board
+  pub moves : (x : Unit) → unit_at old.board name ≡ Some x → IsMoved name x moved x.made (mark_ahead settles (mark.Waiting (wait.Finish t.wait))) board new.board
   pub others : new ≡ record old { owners = with_named old.owners t.root t.owner; board = new.board }

@@ -7,7 +7,7 @@ ghost use Rattle.serial_model.specs.declared.actor_state.ActorState.{ActorState 
 ghost use Rattle.serial_model.specs.declared.halt.Halt.TheVariants as halts;
 ghost use Rattle.serial_model.specs.declared.request.Request.TheVariants as requests;
 ghost use Rattle.serial_model.specs.Step as row;
-ghost use Rattle.shared_world.specs.rows.Actors.{actor_with, roused};
+ghost use Rattle.shared_world.specs.rows.Actors.{actor_with, roused, roused_unless};
 ghost use Rattle.shared_world.specs.Shared.{actor_of, becoming_of, unit_state};
 ghost use Rattle.shared_world.specs.Stands.{Stands};
 ghost use Rattle.unit_table.specs.Board.{piece_at, unit_at, HasPlace, IsPutAt, SameClaims};
@@ -121,7 +121,7 @@ impl Kept {
                 depends: None,
             },
         );
-        rouse(&mut self.units, to);
+        rouse_unless(&mut self.units, self.taken.get(to).is_some(), to);
         Ok(self.settle(name, ready, made))
     }
 
@@ -310,6 +310,18 @@ pub fn rouse(units: &mut Units, name: &Name)
         units.claims_are_tied();
         units.lent_are_ready();
         units.mark(name, Mark::Ready(Work::Begin));
+    }
+}
+
+/// An idle actor that rests can begin a turn, once it has mail, unless a turn of it is begun; anything else stays as it is. It takes
+/// no memory.
+pub fn rouse_unless(units: &mut Units, begun: bool, name: &Name)
+    ensures roused { IsPutAt name.now (roused_unless begun (piece_at units.old name.now)) units.old units.new }
+    ensures claims { SameClaims units.old units.new }
+    ensures places { (other : Called) → HasPlace units.old other → HasPlace units.new other }
+{
+    if !begun {
+        rouse(units, name);
     }
 }
 

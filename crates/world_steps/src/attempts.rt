@@ -4,14 +4,16 @@ ghost use Rattle.std.specs.Arc.{arc_value};
 ghost use Rattle.std.specs.Option.{option_copied, IsSome};
 ghost use Rattle.eval_step.specs.Evaluation.{IsAsking};
 ghost use Rattle.world_steps.specs.Kept.{shared_of, IsSameBut, IsUnitOf};
-ghost use Rattle.world_steps.specs.Rows.{Comes};
+ghost use Rattle.world_steps.specs.Rows.{BeginsOr, Comes};
 ghost use Rattle.world_steps.specs.Trying.{AreTrying, AreTryingNames, HasRoot, HasRootRoom, HasTried, IsTree};
 ghost use Rattle.serial_model.specs.declared.halt.Halt.TheVariants as halts;
 ghost use Rattle.serial_model.specs.declared.request.Request.TheVariants as requests;
+ghost use Rattle.shared_world.specs.rows.Leading.{mark_ahead};
 ghost use Rattle.shared_world.specs.Shared.{actor_of};
 ghost use Rattle.shared_world.specs.Stands.{Stands};
 ghost use Rattle.unit_table.specs.Board.{piece_at, unit_at, HasPlace, IsPutAt, SameClaims};
 ghost use Rattle.unit_table.specs.declared.mark.Mark.TheVariants as marks;
+ghost use Rattle.unit_table.specs.declared.mark.WaitOn.TheVariants as waits;
 ghost use Rattle.unit_table.specs.declared.mark.Work.TheVariants as works;
 ghost use Rattle.unit_table.specs.declared.piece.Piece.TheVariants as pieces;
 ghost use Rattle.value_core.specs.Named.{Name as Called, named};
@@ -22,7 +24,7 @@ use eval_step::Machine;
 use shared_world::Given;
 use std::alloc::{AllocError, Global};
 use task_fork_join::Tree;
-use unit_table::{Mark, UnitKind, Units, WaitOn};
+use unit_table::{Mark, UnitKind, Units, WaitOn, Work};
 use value_core::name_map::{find, put};
 use value_core::{Name, Place, Values};
 
@@ -53,8 +55,28 @@ impl Kept {
         requires body { body.index < length (arc_value self.old.program).nodes }
         ensures { Comes (shared_of self.old) name.now (halts.Ask (requests.Dosync body values) at) (shared_of self.new) result }
     {
+        self.begin_marked(alloc, name, moved, body, values, at, false)
+    }
+
+    /// An attempt at the unit's transaction begins. The unit waits for the root of that; or where what it holds can be settled, it is
+    /// ready for that. For want of memory nothing changes but room.
+    pub fn begin_marked(
+        &mut self,
+        alloc: Global,
+        name: &Name,
+        moved: Machine,
+        body: NodeId,
+        values: Values,
+        at: Place,
+        settles: bool,
+    ) -> Result<Given, AllocError>
+        requires stands { Stands (shared_of self.old) }
+        requires unit { IsUnitOf (shared_of self.old) name.now moved }
+        requires body { body.index < length (arc_value self.old.program).nodes }
+        ensures { BeginsOr (shared_of self.old) name.now body values at settles (shared_of self.new) result }
+    {
         let begun = self.try_with(alloc, name, body, values, at)?;
-        Ok(self.wait_for_root(alloc, name, moved, begun))
+        Ok(self.wait_for_root(alloc, name, moved, begun, settles))
     }
 
     /// The attempt is there, and room for its root. For want of memory nothing has changed but room.
@@ -145,11 +167,18 @@ impl Kept {
         }
     }
 
-    /// The root of the attempt can go on, and its unit waits for it. It takes no memory.
-    fn wait_for_root(&mut self, alloc: Global, name: &Name, moved: Machine, trying: Trying) -> Given
+    /// The root of the attempt can go on, and its unit waits for it, or is ready to settle what it holds. It takes no memory.
+    fn wait_for_root(
+        &mut self,
+        alloc: Global,
+        name: &Name,
+        moved: Machine,
+        trying: Trying,
+        settles: bool,
+    ) -> Given
         requires unit { IsUnitOf (shared_of self.old) name.now moved }
         requires room { HasRootRoom self.old name.now trying }
-        ensures waits { HasRoot (shared_of self.old) name.now moved trying (shared_of self.new) result }
+        ensures waits { HasRoot (shared_of self.old) name.now moved trying settles (shared_of self.new) result }
     {
         let made = self.made_of(name);
         let Trying {
@@ -160,14 +189,19 @@ impl Kept {
         } = trying;
         add_task(&mut self.units, alloc, &root);
         self.owners.fill(&root, owner);
-        move_to(
-            &mut self.units,
-            name,
-            moved,
-            made,
-            Mark::Waiting(WaitOn::Finish(wait)),
-        );
+        move_to(&mut self.units, name, moved, made, mark_of(settles, wait));
         Given::Began { snapshot }
+    }
+}
+
+/// That it is ready to settle, or waits for the finish of that one.
+fn mark_of(settles: bool, wait: Name) -> Mark
+    ensures { result ≡ mark_ahead settles (marks.Waiting (waits.Finish wait)) }
+{
+    if settles {
+        Mark::Ready(Work::Settle)
+    } else {
+        Mark::Waiting(WaitOn::Finish(wait))
     }
 }
 

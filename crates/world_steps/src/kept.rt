@@ -14,6 +14,7 @@ ghost use Rattle.unit_table.specs.Piece.{says_dropped};
 ghost use Rattle.unit_table.specs.declared.mark.Mark.TheVariants as mark;
 ghost use Rattle.unit_table.specs.declared.mark.Work.TheVariants as work;
 
+use actor_mailbox::Message;
 use actor_mails::Mails;
 use core_syntax::Program;
 use eval_step::Machine;
@@ -24,10 +25,12 @@ use std::alloc::{AllocError, Global};
 use std::collections::BTreeMap;
 use std::sync::Arc;
 use task_fork_join::Tree;
+use turns_ahead::TurnAhead;
 use unit_table::{Mark, Units, Work};
 use value_core::{Name, Places, Value};
 
-/// What the world keeps.
+/// What the world keeps. Of each actor the message is taken of its turn whose begin is held; and each turn that runs ahead is kept
+/// by the name of its unit.
 #[derive(Drop)]
 pub struct Kept {
     pub program: Arc<Program>,
@@ -36,6 +39,8 @@ pub struct Kept {
     pub store: Store,
     pub units: Units,
     pub mails: Mails,
+    pub taken: Places<Message>,
+    pub aheads: BTreeMap<Name, TurnAhead>,
     pub attempts: BTreeMap<Name, Tree>,
     pub owners: Places<Name>,
     pub output: Vec<u8>,
@@ -121,7 +126,7 @@ impl Kept {
 }
 
 /// The unit has that machine, has made so many things, and has that mark. It takes no memory.
-pub(crate) fn move_to(units: &mut Units, name: &Name, machine: Machine, made: u32, mark: Mark)
+pub fn move_to(units: &mut Units, name: &Name, machine: Machine, made: u32, mark: Mark)
     requires there { IsSome (unit_at units.old name.now) }
     requires stays { says_dropped mark ≡ false }
     requires can_wait { CanWait units.old mark }
@@ -143,11 +148,7 @@ fn ready_of(alloc: Global, name: &Name, moved: Machine, value: Value) -> Result<
 }
 
 /// The machine, which stands at a request, with that answer.
-pub(crate) fn answered(
-    alloc: Global,
-    mut machine: Machine,
-    value: Value,
-) -> Result<Machine, AllocError>
+pub fn answered(alloc: Global, mut machine: Machine, value: Value) -> Result<Machine, AllocError>
     requires asks { IsAsking machine }
     ensures { IfOk result (IsGiven machine (answers.Value value)) }
 {

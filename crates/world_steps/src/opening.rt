@@ -36,6 +36,8 @@ impl Kept {
             store: Store::new(alloc),
             units,
             mails: Mails::new(alloc),
+            taken: Places::new(alloc),
+            aheads: BTreeMap::new(alloc),
             attempts: BTreeMap::new(alloc),
             owners: Places::new(alloc),
             output: Vec::new(alloc),

@@ -9,6 +9,7 @@ use Rattle.serial_model.specs.declared.end.End.TheVariants as ending
 use Rattle.serial_model.specs.declared.halt.Halt.{Halt}
 use Rattle.serial_model.specs.declared.halt.Halt.TheVariants as halt
 use Rattle.serial_model.specs.declared.request.Request.TheVariants as request
+use Rattle.shared_world.specs.Ahead.{Ahead}
 use Rattle.shared_world.specs.declared.given.Given.{Given}
 use Rattle.shared_world.specs.declared.given.Given.TheVariants as given
 use Rattle.shared_world.specs.Returned.{halt_of}
@@ -52,17 +53,25 @@ pub record Forked (old : Shared) (u task child : Name) (new : Shared) : Type 0 w
   pub put : IsPutAt child (Some (piece.Task (mark.Ready work.Eval))) old.board board
   pub steps : IsMarkedTask (record old { owners = with_named old.owners child u; board = board }) task (mark.Ready work.Eval) new
 
--- a ref that the snapshot does not have: the attempt is undone where the store has it
-abbrev pub Missing : Shared → Name → Unit → Attempt → Name → Option Version → Given → Shared → Type 0
-Missing old u x tree ref None found new = ⊥
-Missing old u x tree ref (Some version) found new = Aborts old u x tree ref version.number found new
+-- Waiting: the unit runs ahead, and the task waits until it is definite and holds nothing; all else stays
+pub record WaitsForTurn (old : Shared) (u task : Name) (found : Given) (new : Shared) : Type 0 where
+  pub ahead : Ahead
+  pub leads : named u old.aheads ≡ Some ahead
+  pub found_is : found ≡ given.Waiting (wait.Definite u)
+  pub marked : IsMarkedTask old task (mark.Waiting (wait.Definite u)) new
+
+-- a ref that the snapshot does not have: the attempt is undone where the store has it; else the turn made it and holds it, and is
+-- waited for
+abbrev pub Missing : Shared → Name → Unit → Name → Attempt → Name → Option Version → Given → Shared → Type 0
+Missing old u x task tree ref None found new = WaitsForTurn old u task found new
+Missing old u x task tree ref (Some version) found new = Aborts old u x tree ref version.number found new
 
 -- what a step comes to that does not end the root
 abbrev pub StepGives : Shared → Name → Unit → Name → Attempt → Stepped → Given → Shared → Type 0
 StepGives old u x task tree stepped.Now found new = (found ≡ given.Local) × IsMarkedTask old task (mark.Ready work.Eval) new
 StepGives old u x task tree (stepped.Forked child) found new = (found ≡ given.Local) × Forked old u task child new
 StepGives old u x task tree (stepped.WaitJoin future) found new = (found ≡ given.Waiting (wait.Finish future)) × IsMarkedTask old task (mark.Waiting (wait.Finish future)) new
-StepGives old u x task tree (stepped.NotInSnapshot ref) found new = Missing old u x tree ref (newest (versions_of old.versions ref)) found new
+StepGives old u x task tree (stepped.NotInSnapshot ref) found new = Missing old u x task tree ref (newest (versions_of old.versions ref)) found new
 StepGives old u x task tree stepped.Finished found new = (found ≡ given.Local) × IsMarkedTask old task (mark.Finished value.Nil) new
 
 -- what a valid attempt comes to whose root ended so
@@ -79,14 +88,16 @@ pub record Conflicts (old : Shared) (u : Name) (x : Unit) (tree : Attempt) (foun
   pub ref_is : slice_get tree.reads conflict.index ≡ Some ref
   pub aborts : Aborts old u x tree ref conflict.version found new
 
--- what an attempt comes to whose root is at its end, and whose unit stands where the history left it
-pub data RootGives (old : Shared) (u : Name) (x : Unit) (tree : Attempt) (ended : TaskEnd) (found : Given) (new : Shared) : Type 0 where
-  valid : named u old.aheads ≡ None → All (IsUnchanged old.versions tree.snapshot) tree.reads → EndGives old u x tree ended found new → RootGives old u x tree ended found new
-  conflicts : named u old.aheads ≡ None → Conflicts old u x tree found new → RootGives old u x tree ended found new
+-- What an attempt comes to whose root is at its end: it is decided on where its unit stands where the history left it; else the task of
+-- which a result is given back waits until that does.
+pub data RootGives (old : Shared) (u : Name) (x : Unit) (task : Name) (tree : Attempt) (ended : TaskEnd) (found : Given) (new : Shared) : Type 0 where
+  valid : named u old.aheads ≡ None → All (IsUnchanged old.versions tree.snapshot) tree.reads → EndGives old u x tree ended found new → RootGives old u x task tree ended found new
+  conflicts : named u old.aheads ≡ None → Conflicts old u x tree found new → RootGives old u x task tree ended found new
+  waits : WaitsForTurn old u task found new → RootGives old u x task tree ended found new
 
 abbrev pub AfterStep : Shared → Name → Unit → Name → Attempt → Stepped → Option TaskEnd → Given → Shared → Type 0
 AfterStep old u x task tree went None found new = StepGives old u x task tree went found new
-AfterStep old u x task tree went (Some ended) found new = RootGives old u x tree ended found new
+AfterStep old u x task tree went (Some ended) found new = RootGives old u x task tree ended found new
 
 -- the task of that machine takes a step, and that comes of it
 pub record TakesStep (old : Shared) (u : Name) (x : Unit) (task : Name) (tree : Attempt) (machine : Evaluation) (found : Given) (new : Shared) : Type 0 where
@@ -106,4 +117,4 @@ StepsOn old u x task tree None found new = ⊥
 -- What the task comes to, by its machine; where the root is at its end already and was not decided on, that is decided.
 abbrev pub TaskGives : Shared → Name → Unit → Name → Attempt → Option TaskEnd → Option Evaluation → Given → Shared → Type 0
 TaskGives old u x task tree None machine found new = StepsOn old u x task tree machine found new
-TaskGives old u x task tree (Some ended) machine found new = RootGives old u x tree ended found new
+TaskGives old u x task tree (Some ended) machine found new = RootGives old u x task tree ended found new

@@ -1,5 +1,6 @@
 use Rattle.std.proofs.Common.{◌≡◌, ◌∙◌, ◌∷◌, ◌++◌, [], length, arith, refl, sym, ap, subst, suc}
 use Rattle.std.specs.Option.{IsSome, option_and_then}
+use Rattle.actor_mailbox.specs.declared.message.Message.{Message}
 use Rattle.actor_mails.specs.Mails.{Mail, held}
 use Rattle.attempt_steps.proofs.Committing.{committed-so, moved-there, moves-on, still-there, tasks-gone, undone-again, vacant-after}
 use Rattle.attempt_steps.proofs.Decided.{at-attempt}
@@ -15,7 +16,8 @@ use Rattle.shared_world.specs.Shared.{Shared}
 use Rattle.task_fork_join.specs.Attempt.{Attempt, names_in}
 use Rattle.unit_table.specs.declared.unit.Unit.{Unit}
 use Rattle.unit_table.specs.Piece.{unit_in}
-use Rattle.value_core.specs.Named.{named}
+use Rattle.value_core.specs.Named.{Named, named}
+use Rattle.value_core.specs.Placed.{filled}
 use Rattle.attempt_steps.proofs.commits.commit.Goals as goal
 
 pub prune-requires-clause-room : goal.prune-requires-clause-room
@@ -72,6 +74,7 @@ returns c =
     let is_new : new ≡ record (shared_of settled) { board = new.board; mails = new.mails } = ap shared_of c.do_deeds.ensures.others in
     let so = is_new ∙ ap (λ (s : Shared). record s { board = new.board; mails = new.mails }) c.settle-given.ensures.others in
     let versions : new.versions ≡ c.prune.new.store.versions = ap (λ (s : Shared). s.versions) so in
+    let taken : filled settled.taken ≡ old.taken = ap (λ (k : Kept). filled k.taken) c.settle-given.ensures.rest ∙ ap (λ (s : Shared). s.taken) same.rest in
     let mails : held settled.mails ≡ old.mails = ap (λ (k : Kept). held k.mails) c.settle-given.ensures.rest ∙ ap (λ (s : Shared). s.mails) same.rest in
     committed-so old new mid settled.units left u is.ready.machine p.ready.machine c.args.value p.made p.number g c.settle-given.result c.requires.stands c.requires.going
     (undone-again old base u left mid same c.drop_attempt.ensures.gone)
@@ -84,8 +87,8 @@ returns c =
     (subst (λ vs. ArePrunedFor left vs c.prune.new.store.versions) (c.commit.ensures.versions ∙ ap (λ (s : Shared). committed s.versions g.writes.items p.number) same.rest) c.prune.ensures.pruned))
     c.settle-given.ensures.found c.settle-given.ensures.set
     (λ a some. sym (same.pieces a) ∙ (is.actors a some).none)
-    (λ a. refl)
-    (subst (λ (m : Mail). AreDone u g.deeds m new.mails settled.units new.board) mails c.do_deeds.ensures.done)
+    (subst (λ (t : Named Message). AreDone u g.deeds t old.mails new.mails settled.units new.board) taken
+    (subst (λ (m : Mail). AreDone u g.deeds (filled settled.taken) m new.mails settled.units new.board) mails c.do_deeds.ensures.done))
     (so
     ∙ ap (λ (s : Shared). record s { history = s.history ++ Run u ∷ []; versions = c.prune.new.store.versions; attempts = left; bytes = c.extend_from_slice.new.self.items; board = new.board; mails = new.mails }) same.rest
     ∙ ap (λ b. record old { history = old.history ++ Run u ∷ []; versions = c.prune.new.store.versions; attempts = left; bytes = b; board = new.board; mails = new.mails }) bytes

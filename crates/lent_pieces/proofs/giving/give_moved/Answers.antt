@@ -1,4 +1,4 @@
-use Rattle.std.proofs.Common.{subst, refl}
+use Rattle.std.proofs.Common.{subst}
 use Rattle.lent_pieces.proofs.Given.{body-there, unit-gave-so, unit-of}
 use Rattle.lent_pieces.specs.Giving.{IsStanderOf}
 use Rattle.world_steps.specs.Kept.{shared_of}
@@ -7,14 +7,14 @@ use Rattle.lent_pieces.proofs.giving.give_moved.Goals as goal
 pub give_unit-requires-clause-unit : goal.give_unit-requires-clause-unit
 give_unit-requires-clause-unit c =
     let s = shared_of c.args.kept.now in
-    unit-of s c.args.name.now c.args.moved (subst (IsStanderOf s c.args.name.now) c.in-Unit.is c.in_ok-stander_of.ensures) c.requires.unfinished c.requires.moved
+    unit-of s c.args.name.now c.args.moved (subst (IsStanderOf s c.args.name.now) c.in-Unit.is c.in_ok-stander_of.ensures).some c.requires.unfinished c.requires.moved
 
 pub give_unit-requires-clause-body : goal.give_unit-requires-clause-body
 give_unit-requires-clause-body c =
     let s = shared_of c.args.kept.now in
-    body-there s c.requires.stands c.args.name.now c.args.moved (subst (IsStanderOf s c.args.name.now) c.in-Unit.is c.in_ok-stander_of.ensures) c.requires.moved
+    body-there s c.requires.stands c.args.name.now c.args.moved (subst (IsStanderOf s c.args.name.now) c.in-Unit.is c.in_ok-stander_of.ensures).some c.requires.moved
 
 pub returns-in-Unit : goal.returns-in-Unit
 returns-in-Unit c =
     let s = shared_of c.args.kept.now in
-    unit-gave-so s (shared_of c.give_unit.new.self) c.requires.stands c.args.name.now c.args.moved c.give_unit.result refl (subst (IsStanderOf s c.args.name.now) c.in-Unit.is c.in_ok-stander_of.ensures) c.requires.moved c.give_unit.ensures
+    unit-gave-so s (shared_of c.give_unit.new.self) c.requires.stands c.args.name.now c.args.moved c.give_unit.result (subst (IsStanderOf s c.args.name.now) c.in-Unit.is c.in_ok-stander_of.ensures).level (subst (IsStanderOf s c.args.name.now) c.in-Unit.is c.in_ok-stander_of.ensures).some c.requires.moved c.give_unit.ensures

@@ -1,17 +1,8 @@
-use Rattle.std.proofs.Common.{◌≡◌, ◌∙◌, [], Option, Some, sym, ap, subst}
+use Rattle.std.proofs.Common.{◌≡◌, [], Some, sym, ap, subst}
 use Rattle.std.specs.Prelude.{MatchOption, slice_get}
 use Rattle.std.specs.Option.{option_copied}
-use Rattle.value_core.specs.Named.{Name, named, Rises}
-use Rattle.value_core.specs.Roomy.{Roomy}
-use Rattle.actor_mailbox.specs.declared.message.Message.{Message}
-use Rattle.actor_mails.specs.Mails.{held, items_in, mail_at, Boxes}
-use Rattle.actor_mails.proofs.Held.{held_at}
+use Rattle.actor_mails.proofs.Held.{seen}
 use Rattle.actor_mails.proofs.mails.Mails.front.Goals as goal
-
--- what waits is what the box holds that was found
-seen : (self inside : Boxes) (actor : Name) (found box : Option (Roomy Message)) → inside ≡ self → Rises inside → found ≡ named actor inside → found ≡ box → mail_at (held self) actor ≡ items_in box
-seen self inside actor found box view rises find is =
-    subst (λ (boxes : Boxes). mail_at (held boxes) actor ≡ items_in box) view (held_at inside actor rises ∙ ap items_in (sym find ∙ is))
 
 pub returns-in-Some : goal.returns-in-Some
 returns-in-Some c =

@@ -1,0 +1,6 @@
+pub mod Begun
+pub mod First
+pub mod Lefts
+pub mod Nexts
+pub mod Sending
+pub mod Wakes

@@ -1,0 +1,20 @@
+-- Tasks that wait for the turn that their unit is.
+use Rattle.std.specs.Prelude.{◌≡◌, Err, Ok, Result}
+use Rattle.std.specs.declared.alloc.AllocError.{AllocError}
+use Rattle.attempt_steps.specs.Tasks.{TaskMarked}
+use Rattle.shared_world.specs.declared.given.Given.{Given}
+use Rattle.shared_world.specs.declared.given.Given.TheVariants as given
+use Rattle.shared_world.specs.Shared.{Shared}
+use Rattle.unit_table.specs.declared.mark.Mark.TheVariants as mark
+use Rattle.unit_table.specs.declared.mark.WaitOn.TheVariants as wait
+use Rattle.value_core.specs.Named.{Name}
+use Rattle.world_steps.specs.Kept.{IsSameBut}
+
+-- the task waits until that turn is definite and holds nothing; or for want of memory nothing changes
+pub record HasWaited (old : Shared) (owner task : Name) (new : Shared) (found : Given) : Type 0 where
+  pub found_is : found ≡ given.Waiting (wait.Definite owner)
+  pub marked : TaskMarked old task (mark.Waiting (wait.Definite owner)) new
+
+abbrev pub TurnWaitsOr : Shared → Name → Name → Shared → Result Given AllocError → Type 0
+TurnWaitsOr old owner task new (Ok found) = HasWaited old owner task new found
+TurnWaitsOr old owner task new (Err e) = IsSameBut old new
