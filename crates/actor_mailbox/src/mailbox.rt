@@ -1,4 +1,4 @@
-ghost use Rattle.std.specs.Prelude.{◌≡◌, ◌&&◌, ◌+◌, ◌<◌, ◌≤◌, [], ◌∷◌, ◌++◌, IsOk, OnOk, MatchOption, MatchResult, Some, count_by, length, position, slice_get};
+ghost use Rattle.std.specs.Prelude.{◌≡◌, ◌&&◌, ◌+◌, ◌<◌, ◌≤◌, [], ◌∷◌, ◌++◌, IsOk, OnOk, MatchOption, MatchResult, Some, count_by, length, position, slice_get, true};
 ghost use Rattle.std.specs.List.{list_any};
 ghost use Rattle.value_core.specs.Named.{same_name};
 ghost use Rattle.actor_mailbox.specs.Messages.{depends_on, from, is_from, settle, settle_first, without, without_first};
@@ -124,6 +124,14 @@ impl Mailbox {
         ensures room { self.old.room ≤ self.new.room }
     {
         self.messages.retain(|message| !message.depends_on(name));
+    }
+
+    /// Removes the messages that are not settled. It takes no memory.
+    pub fn drop_unsettled(&mut self)
+        ensures items { self.new.items ≡ without (λ on. true) self.old.items }
+        ensures room { self.old.room ≤ self.new.room }
+    {
+        self.messages.retain(|message| !message.is_unsettled());
     }
 
     /// How many messages of that sender are not settled.

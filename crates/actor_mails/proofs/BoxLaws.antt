@@ -9,7 +9,7 @@ use Rattle.value_core.specs.Roomy.{Roomy}
 use Rattle.value_core.proofs.NamedLaws.{named-here, named-other, rises-with_named, same_or_not}
 use Rattle.value_core.proofs.NameMaps.{found_named, rises_of, written_is_put}
 use Rattle.actor_mailbox.specs.declared.message.Message.{Message}
-use Rattle.actor_mailbox.specs.Messages.{depends_on, settle_first}
+use Rattle.actor_mailbox.specs.Messages.{depends_on, settle_first, without}
 use Rattle.std.specs.List.{list_any}
 use Rattle.actor_mails.specs.Mails.{held, items_in, mail_at, room_at, room_in, Boxes, IsMailed, KeepsRoom, KeepsRoomBut, SameMailBut}
 use Rattle.actor_mails.proofs.Held.{held_at, held_same}
@@ -85,6 +85,13 @@ module _ (to : Name) (before after : Roomy Message) (old new : Boxes) (back : Is
     others = mail_others to after old new back.put back.rises;
   }
 
+  -- the message comes to stand before those of the box
+  pub mailed_first : (first : Message) → after.items ≡ first ∷ before.items → IsMailed to (first ∷ mail_at (held old) to) (held old) (held new)
+  mailed_first first items = record {
+    here = mail_here to after old new back.put back.rises ∙ items ∙ ap (λ (mail : List Message). first ∷ mail) (sym mail_before);
+    others = mail_others to after old new back.put back.rises;
+  }
+
   pub room_kept-others : KeepsRoomBut to old new
   room_kept-others = room_others to after old new back.put
 
@@ -112,3 +119,10 @@ module _ (to : Name) (before after : Roomy Message) (old new : Boxes) (back : Is
 
   pub found_first : (test : Name → Bool) → list_any (depends_on test) before.items ≡ list_any (depends_on test) (mail_at (held old) to)
   found_first test = ap (list_any (depends_on test)) (sym mail_before)
+
+  -- the messages of the box that depend on a name that passes are gone
+  pub dropped : (test : Name → Bool) → after.items ≡ without test before.items → IsMailed to (without test (mail_at (held old) to)) (held old) (held new)
+  dropped test items = record {
+    here = mail_here to after old new back.put back.rises ∙ items ∙ ap (without test) (sym mail_before);
+    others = mail_others to after old new back.put back.rises;
+  }

@@ -1,4 +1,5 @@
 pub mod BoxLaws
 pub mod Crossing
+pub mod Dropping
 pub mod Held
 pub mod Waiting

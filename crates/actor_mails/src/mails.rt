@@ -1,8 +1,8 @@
-ghost use Rattle.std.specs.Prelude.{◌≡◌, ◌↔◌, ◌+◌, ◌<◌, ◌≤◌, [], ◌∷◌, ◌++◌, length, IsOk, IsTrue, MatchOption, None, OnErr, OnOk, Some, slice_get};
+ghost use Rattle.std.specs.Prelude.{◌≡◌, ◌↔◌, ◌+◌, ◌<◌, ◌≤◌, [], ◌∷◌, ◌++◌, length, IsOk, IsTrue, MatchOption, None, OnErr, OnOk, Some, slice_get, true};
 ghost use Rattle.std.specs.List.{list_any};
-ghost use Rattle.actor_mailbox.specs.Messages.{depends_on, settle_first};
+ghost use Rattle.actor_mailbox.specs.Messages.{depends_on, settle_first, without};
 ghost use Rattle.actor_mailbox.specs.Unsettled.{unsettled_of};
-ghost use Rattle.value_core.specs.Named.{named, same_name, Rises};
+ghost use Rattle.value_core.specs.Named.{named, same_name, Name as Called, Rises};
 ghost use Rattle.actor_mails.specs.Mails.{held, mail_at, room_at, IsMailed, KeepsRoom, KeepsRoomBut, NoMail, SameMailBut};
 
 use actor_mailbox::{Mailbox, Message};
@@ -61,6 +61,17 @@ impl Mails {
         ensures kept { KeepsRoomBut to.now self.old self.new }
     {
         put(&mut self.boxes, to, message);
+    }
+
+    /// Puts the message before those that wait for that actor, for which there must be room. The mail and the room of the
+    /// others stay. It takes no memory.
+    pub fn put_first(&mut self, to: &Name, message: Message)
+        requires { 0 < room_at self.old to.now }
+        ensures mail { IsMailed to.now (message ∷ mail_at (held self.old) to.now) (held self.old) (held self.new) }
+        ensures room { room_at self.old to.now ≤ room_at self.new to.now + 1 }
+        ensures kept { KeepsRoomBut to.now self.old self.new }
+    {
+        put_first(&mut self.boxes, to, message);
     }
 
     /// Puts the message behind those that wait for that actor, or finds no memory. The mail of the others stays, and all
@@ -130,6 +141,23 @@ impl Mails {
         ensures room { KeepsRoom self.old self.new }
     {
         settle_in(&mut self.boxes, to, on)
+    }
+
+    /// Removes the messages that wait for that actor and depend on that name. The mail of the others stays, and no actor has
+    /// less room. It takes no memory.
+    pub fn drop_of(&mut self, to: &Name, on: &Name)
+        ensures mail { IsMailed to.now (without (same_name on.now) (mail_at (held self.old) to.now)) (held self.old) (held self.new) }
+        ensures room { KeepsRoom self.old self.new }
+    {
+        drop_in(&mut self.boxes, to, on);
+    }
+
+    /// Removes the messages that are not settled, whoever they wait for. No actor has less room. It takes no memory.
+    pub fn drop_unsettled(&mut self)
+        ensures mail { (actor : Called) → mail_at (held self.new) actor ≡ without (λ on. true) (mail_at (held self.old) actor) }
+        ensures room { KeepsRoom self.old self.new }
+    {
+        drop_unsettled(&mut self.boxes);
     }
 
     /// How many of the messages that wait for that actor are of the sender and not settled.
@@ -205,6 +233,39 @@ fn put_last(mailbox: &mut Mailbox, message: Message)
     let _ = mailbox.put(message);
 }
 
+fn put_first(boxes: &mut BTreeMap<Name, Mailbox>, to: &Name, message: Message)
+    requires { 0 < room_at boxes.old.entries to.now }
+    ensures mail { IsMailed to.now (message ∷ mail_at (held boxes.old.entries) to.now) (held boxes.old.entries) (held boxes.new.entries) }
+    ensures room { room_at boxes.old.entries to.now ≤ room_at boxes.new.entries to.now + 1 }
+    ensures kept { KeepsRoomBut to.now boxes.old.entries boxes.new.entries }
+    ensures rises { Rises boxes.old.entries → Rises boxes.new.entries }
+{
+    if let Some(mailbox) = boxes.get_mut(to) {
+        put_before(mailbox, message);
+    }
+}
+
+/// Puts the message before those of the mailbox, which has room for it.
+fn put_before(mailbox: &mut Mailbox, message: Message)
+    requires { 0 < mailbox.old.room }
+    ensures items { mailbox.new.items ≡ message ∷ mailbox.old.items }
+    ensures room { mailbox.old.room ≤ mailbox.new.room + 1 }
+{
+    let _ = mailbox.put_first(message);
+}
+
+/// Removes what is not settled from each box.
+fn drop_unsettled(boxes: &mut BTreeMap<Name, Mailbox>)
+    ensures mail { (actor : Called) → mail_at (held boxes.new.entries) actor ≡ without (λ on. true) (mail_at (held boxes.old.entries) actor) }
+    ensures room { KeepsRoom boxes.old.entries boxes.new.entries }
+    ensures rises { Rises boxes.old.entries → Rises boxes.new.entries }
+{
+    boxes.retain(|_, mailbox| {
+        mailbox.drop_unsettled();
+        true
+    });
+}
+
 fn append(boxes: &mut BTreeMap<Name, Mailbox>, to: &Name, more: Mailbox)
     requires { length more.items ≤ room_at boxes.old.entries to.now }
     ensures mail { IsMailed to.now (mail_at (held boxes.old.entries) to.now ++ more.items) (held boxes.old.entries) (held boxes.new.entries) }
@@ -260,5 +321,15 @@ fn settle_in(boxes: &mut BTreeMap<Name, Mailbox>, to: &Name, on: &Name) -> bool
     match boxes.get_mut(to) {
         Some(mailbox) => mailbox.settle_first(on),
         None => false,
+    }
+}
+
+fn drop_in(boxes: &mut BTreeMap<Name, Mailbox>, to: &Name, on: &Name)
+    ensures mail { IsMailed to.now (without (same_name on.now) (mail_at (held boxes.old.entries) to.now)) (held boxes.old.entries) (held boxes.new.entries) }
+    ensures room { KeepsRoom boxes.old.entries boxes.new.entries }
+    ensures rises { Rises boxes.old.entries → Rises boxes.new.entries }
+{
+    if let Some(mailbox) = boxes.get_mut(to) {
+        mailbox.drop_of(on);
     }
 }

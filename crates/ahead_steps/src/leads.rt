@@ -16,7 +16,7 @@ use value_core::{Name, Places};
 use world_steps::Kept;
 
 /// Whether the turn is definite. One that does not run ahead, of which no run knows, is taken for want of memory.
-pub(crate) fn check_definite(kept: &Kept, name: &Name) -> Result<bool, AllocError>
+pub fn check_definite(kept: &Kept, name: &Name) -> Result<bool, AllocError>
     ensures { IfOk result (IsLead (shared_of kept.now) name.now) }
 {
     match find(&kept.aheads, name) {

@@ -9,3 +9,4 @@ mod trying;
 mod waiting;
 
 pub use going::go_ahead;
+pub use leads::check_definite;

@@ -1,12 +1,21 @@
 -- What follows what is the same but for room, of tasks.
-use Rattle.std.proofs.Common.{◌≡◌, ◌∙◌, cond, refl, sym, ap}
+use Rattle.std.proofs.Common.{◌≡◌, ◌∙◌, Bool, cond, refl, sym, ap}
+use Rattle.std.specs.Option.{option_and_then}
 use Rattle.std.specs.Prelude.{None, Option, Some, is_some, not, ◌&&◌, ◌||◌}
 use Rattle.ref_store.specs.declared.version.Version.{Version}
 use Rattle.ref_store.specs.Store.{versions_of}
 use Rattle.ref_store.specs.Version.{newest}
 use Rattle.shared_world.specs.declared.given.Given.{Given}
-use Rattle.shared_world.specs.Gave.{gone_with}
-use Rattle.shared_world.specs.rows.Attempts.{Aborts, AttemptGoes, Commits}
+use Rattle.shared_world.specs.declared.given.Given.TheVariants as given
+use Rattle.shared_world.specs.Dependence as kept
+use Rattle.shared_world.specs.Dependence.{DependsIn}
+use Rattle.shared_world.specs.Gave.{ended_by, gone_with}
+use Rattle.shared_world.specs.rows.Attempts.{AttemptGoes}
+use Rattle.shared_world.specs.rows.Undoing.{Aborts, Undoes, piece_left}
+use Rattle.shared_world.specs.rows.Actors.{acted, spawned}
+use Rattle.shared_world.specs.rows.Commits.{Commits, definite_if, turns_on}
+use Rattle.shared_world.specs.rows.Unsettled.{kept_to}
+use Rattle.actor_mails.specs.Mails.{mail_at}
 use Rattle.shared_world.specs.rows.Pieces.{ClaimsEnd, IsSet, but_gone, task_gone}
 use Rattle.shared_world.specs.rows.Tasks.{AfterStep, EndGives, Forked, IsMarkedTask, Missing, RootGives, StepGives, WaitsForTurn, conflicts, valid, waits}
 use Rattle.shared_world.specs.Shared.{Shared, claimed}
@@ -15,14 +24,15 @@ use Rattle.task_fork_join.specs.declared.stepped.Stepped.{Stepped}
 use Rattle.task_fork_join.specs.declared.stepped.Stepped.TheVariants as stepped
 use Rattle.task_fork_join.specs.declared.task_end.TaskEnd.{TaskEnd}
 use Rattle.task_fork_join.specs.declared.task_end.TaskEnd.TheVariants as end
-use Rattle.unit_table.specs.Board.{Board, SamePieces, piece_at}
+use Rattle.unit_table.specs.Board.{Board, SamePieces, lent_at, piece_at}
 use Rattle.unit_table.specs.declared.mark.Mark.{Mark}
 use Rattle.unit_table.specs.declared.piece.Piece.{Piece}
+use Rattle.unit_table.specs.declared.piece.Piece.TheVariants as piece
 use Rattle.unit_table.specs.declared.unit.Unit.{Unit}
-use Rattle.unit_table.specs.Piece.{beside}
+use Rattle.unit_table.specs.Piece.{actor_in, beside}
 use Rattle.value_core.specs.Named.{Name, named, same_name}
 
-module _ (base : Shared) (b : Board) (same : SamePieces base.board b) where
+module _ (base : Shared) (b : Board) (same : SamePieces base.board b) (lent : (q : Name) → lent_at b q ≡ lent_at base.board q) where
   abbrev mid : Shared
   mid = record base { board = b }
 
@@ -46,15 +56,43 @@ module _ (base : Shared) (b : Board) (same : SamePieces base.board b) where
     tasks = record { here = row.tasks.here; others = λ other ne. row.tasks.others other ne ∙ ap (λ p. cond (is_some (named other tree.tasks)) (task_gone p) p) (same other) };
   }
 
-  aborts-again : (u : Name) (x : Unit) (tree : Attempt) (ref : Name) (version : _) (found : Given) (new : Shared) → Aborts mid u x tree ref version found new → Aborts base u x tree ref version found new
-  aborts-again u x tree ref version found new row = record {
-    found_is = row.found_is;
-    unit = row.unit;
-    stands = row.stands;
-    goes = goes-again u row.unit tree new row.goes;
+  -- what hangs on the root is the same
+  hangs-there : (root n : Name) → DependsIn mid root n → DependsIn base root n
+  hangs-there root n (kept.itself same_root) = kept.itself same_root
+  hangs-there root n (kept.turn a actor m on there took depends called rest) = kept.turn a actor m on (ap (option_and_then actor_in) (sym (same a)) ∙ there) took depends called (hangs-there root on rest)
+  hangs-there root n (kept.attempt v tree there called rest) = kept.attempt v tree there called (hangs-there root v rest)
+
+  hangs-here : (root n : Name) → DependsIn base root n → DependsIn mid root n
+  hangs-here root n (kept.itself same_root) = kept.itself same_root
+  hangs-here root n (kept.turn a actor m on there took depends called rest) = kept.turn a actor m on (ap (option_and_then actor_in) (same a) ∙ there) took depends called (hangs-here root on rest)
+  hangs-here root n (kept.attempt v tree there called rest) = kept.attempt v tree there called (hangs-here root v rest)
+
+  left-again : (gone : Name → Bool) (new : Shared) (n : Name) (found : Option Piece) → piece_left mid gone new n found ≡ piece_left base gone new n found
+  left-again gone new n None = refl
+  left-again gone new n (Some (piece.Unit x)) = refl
+  left-again gone new n (Some (piece.Task m)) = refl
+  left-again gone new n (Some (piece.Actor a)) = refl
+
+  undoes-again : (u : Name) (x : Unit) (tree : Attempt) (new : Shared) → Undoes mid u x tree new → Undoes base u x tree new
+  undoes-again u x tree new row = record {
+    gone = row.gone;
+    are = record { all = λ n hangs. row.are.all n (hangs-here tree.root n hangs); only = λ n is. hangs-there tree.root n (row.are.only n is) };
+    pieces = record {
+      unit = row.pieces.unit;
+      stands = row.pieces.stands;
+      here = row.pieces.here;
+      others = λ n other. row.pieces.others n other ∙ left-again row.gone new n (piece_at b n) ∙ ap (piece_left base row.gone new n) (same n);
+    };
+    attempts = row.attempts;
+    aheads = row.aheads;
+    taken = row.taken;
+    mails = row.mails;
     versions = row.versions;
     others = row.others;
   }
+
+  aborts-again : (u : Name) (x : Unit) (tree : Attempt) (ref : Name) (version : _) (found : Given) (new : Shared) → Aborts mid u x tree ref version found new → Aborts base u x tree ref version found new
+  aborts-again u x tree ref version found new row = record { found_is = row.found_is; undoes = undoes-again u x tree new row.undoes }
 
   commits-again : (u : Name) (x : Unit) (tree : Attempt) (v : _) (found : Given) (new : Shared) → Commits mid u x tree v found new → Commits base u x tree v found new
   commits-again u x tree v found new row = record {
@@ -65,8 +103,13 @@ module _ (base : Shared) (b : Board) (same : SamePieces base.board b) where
     stands = row.stands;
     board = row.board;
     goes = goes-again u row.unit tree (record new { board = row.board }) row.goes;
-    acts = record { none = λ a actor made. sym (same a) ∙ row.acts.none a actor made; pieces = row.acts.pieces };
-    mails = row.mails;
+    acts = record {
+      none = λ a actor made. sym (same a) ∙ row.acts.none a actor made;
+      pieces = λ q.
+          row.acts.pieces q
+          ∙ ap (λ claim. acted (is_some (named q base.taken)) (spawned row.log.log.effects q) (kept_to base u tree q) (mail_at new.mails q) (definite_if (turns_on base tree.root q) (is_some claim) (piece_at row.board q))) (lent q);
+    };
+    sends = record { taken = row.sends.taken; mails = row.sends.mails };
     versions = row.versions;
     others = row.others;
   }
@@ -106,9 +149,19 @@ module _ (base : Shared) (b : Board) (same : SamePieces base.board b) where
   after-again u x task tree went (Some e) found new row = root-again u x task tree e found new row
 
 -- the claims that end
-pub gone-again : (old mid new : Shared) (task : Name) → SamePieces old.board mid.board → ((t : _) → claimed mid t ≡ claimed old t) → ClaimsEnd (gone_with mid.board new.board task) mid new → ClaimsEnd (gone_with old.board new.board task) old new
-gone-again old mid new task same claims ends going ticket = ends going ticket ∙ ap (but_gone (gone_with mid.board new.board task)) (claims ticket) ∙ on (claimed old ticket)
+ended-again : (found : Given) (old between new : Board) (q : Name) → is_some (piece_at between q) ≡ is_some (piece_at old q) → ended_by found between new q ≡ ended_by found old new q
+ended-again (given.Aborted unit ref version) old between new q same = refl
+ended-again (given.Settled entry) old between new q same = ap (λ c. c && not (is_some (piece_at new q))) same
+ended-again given.Held old between new q same = ap (λ c. c && not (is_some (piece_at new q))) same
+ended-again given.Local old between new q same = ap (λ c. c && not (is_some (piece_at new q))) same
+ended-again (given.Began snapshot) old between new q same = ap (λ c. c && not (is_some (piece_at new q))) same
+ended-again (given.Waiting on) old between new q same = ap (λ c. c && not (is_some (piece_at new q))) same
+ended-again given.Stale old between new q same = ap (λ c. c && not (is_some (piece_at new q))) same
+
+pub gone-again : (found : Given) (old mid new : Shared) (task : Name) → ((q : Name) → is_some (piece_at mid.board q) ≡ is_some (piece_at old.board q)) → ((t : _) → claimed mid t ≡ claimed old t) → ClaimsEnd (gone_with found mid.board new.board task) mid new
+    → ClaimsEnd (gone_with found old.board new.board task) old new
+gone-again found old mid new task same claims ends going ticket = ends going ticket ∙ ap (but_gone (gone_with found mid.board new.board task)) (claims ticket) ∙ on (claimed old ticket)
   where
-    on : (found : Option Name) → but_gone (gone_with mid.board new.board task) found ≡ but_gone (gone_with old.board new.board task) found
+    on : (o : Option Name) → but_gone (gone_with found mid.board new.board task) o ≡ but_gone (gone_with found old.board new.board task) o
     on None = refl
-    on (Some q) = ap (λ p. cond (same_name q task || (is_some p && not (is_some (piece_at new.board q)))) None (Some q)) (same q)
+    on (Some q) = ap (λ c. cond (same_name q task || c) None (Some q)) (ended-again found old.board mid.board new.board q (same q))

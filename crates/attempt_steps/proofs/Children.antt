@@ -34,8 +34,8 @@ of-step old mid owner task moved h is went t child next = by went refl
     kept : IsKept task moved is.tree.tasks
     kept = kept-so is.tree task is.machine moved is.kept is.same
 
-    shape : IsShaped is.tree.tasks task (outer_of t.board h) h went t.after.tasks
-    shape = shaped (snapshot_of old.versions is.tree.snapshot) task moved (outer_of t.board h) is.tree t.after went kept.task kept.there h t.step.comes
+    shape : IsShaped is.tree.tasks task (outer_of old.board h) h went t.after.tasks
+    shape = shaped (snapshot_of old.versions is.tree.snapshot) task moved (outer_of old.board h) is.tree t.after went kept.task kept.there h t.step.comes
 
     by : (w : Stepped) → went ≡ w → IsOfStep child w
     by stepped.Now e = tt

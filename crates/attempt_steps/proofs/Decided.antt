@@ -1,20 +1,23 @@
 -- Attempts whose root is at its end.
 use Rattle.std.proofs.Common.{◌≡◌, ◌∙◌, true, false, sym, ap, subst}
-use Rattle.std.specs.Prelude.{Err, IfSome, None, Ok, Option, Result, Some}
+use Rattle.std.specs.Prelude.{Err, IfSome, None, Ok, Result, Some}
 use Rattle.std.specs.declared.alloc.AllocError.{AllocError}
-use Rattle.attempt_steps.proofs.Ending.{acts-stay, goes-end, stays-itself}
+use Rattle.attempt_commits.proofs.Committing.{at-attempt}
+use Rattle.attempt_steps.proofs.Ending.{acts-stay, goes-end}
 use Rattle.attempt_steps.specs.declared.deciding.Changed.{Changed}
-use Rattle.attempt_steps.specs.Deciding.{CommitsOr, DecidedOr, IsTrying, IsValidated, SettledOr}
-use Rattle.attempt_steps.specs.Gone.{GoneEnd}
+use Rattle.attempt_commits.specs.Committing.{CommitsOr, IsTrying}
+use Rattle.attempt_steps.specs.Deciding.{DecidedOr, IsValidated, SettledOr}
+use Rattle.attempt_steps.specs.Ending.{FoundEnd}
+use Rattle.shared_world.specs.Gave.{ended_by}
 use Rattle.world_steps.specs.Rows.{EndsOr}
 use Rattle.attempt_steps.specs.Undoing.{AbortsOr}
 use Rattle.serial_model.specs.declared.end.End.{End}
 use Rattle.serial_model.specs.declared.end.End.TheVariants as ending
 use Rattle.shared_world.specs.declared.given.Given.{Given}
-use Rattle.shared_world.specs.rows.Attempts.{Aborts}
-use Rattle.shared_world.specs.rows.Pieces.{Ends}
+use Rattle.shared_world.specs.rows.Pieces.{Ends, but_gone}
 use Rattle.shared_world.specs.rows.Tasks.{EndGives, conflicts, valid}
-use Rattle.shared_world.specs.Shared.{Shared, is_going}
+use Rattle.shared_world.specs.rows.Undoing.{Aborts}
+use Rattle.shared_world.specs.Shared.{Shared, claimed, is_going}
 use Rattle.task_fork_join.specs.Attempt.{Attempt, end_at}
 use Rattle.task_fork_join.specs.declared.task_end.TaskEnd.{TaskEnd}
 use Rattle.task_fork_join.specs.declared.task_end.TaskEnd.TheVariants as end
@@ -22,10 +25,6 @@ use Rattle.value_core.specs.declared.code.Code.{Code}
 use Rattle.value_core.specs.declared.value.Value.{Value}
 use Rattle.value_core.specs.Named.{Name, named}
 use Rattle.value_core.specs.Place.{Spot}
-
--- what holds of the attempt that is there
-pub at-attempt : {X : Type 0} (o : Option X) (P : X → Type 0) (x : X) → o ≡ Some x → IfSome o P → P x
-at-attempt {X} o P x there is = subst (λ (found : Option X). IfSome found P) there is
 
 -- a conflict
 pub decided-abort : (old new : Shared) (owner : Name) (c : Changed) (result : Result Given AllocError) → IsTrying old owner → IfSome (named owner old.attempts) (λ tree. IsValidated old.versions tree (Some c))
@@ -41,10 +40,7 @@ decided-abort old new owner c (Ok found) trying changed r = record {
         ref_is = is.name_is;
         aborts = subst (λ v. Aborts old owner x tree c.name v found new) is.version_is (r.row x tree there attempt);
       });
-  claims =
-      let has = trying.has in
-      let row = r.row has.unit has.tree has.there has.attempt in
-      goes-end old new new.board owner row.unit has.tree (ap (λ (s : Shared). s.end) row.others) trying.free row.goes (stays-itself old.board new.board) (r.claims has.tree has.attempt);
+  claims = r.claims;
 }
 
 -- no conflict
@@ -64,13 +60,14 @@ pub settled-commit : (old new : Shared) (owner : Name) (v : Value) (result : Res
 settled-commit old new owner v (Err e) trying is r = r
 settled-commit old new owner v (Ok found) trying is r = record {
   row = λ x tree ended there attempt is_ended. subst (λ e. EndGives old owner x tree e found new) (same-end old owner (end.Value v) ended tree is attempt is_ended) (r.row x tree there attempt);
-  claims =
+  claims = λ going ticket.
       let has = trying.has in
       let row = r.row has.unit has.tree has.there has.attempt in
-      goes-end old new row.board owner row.unit has.tree (ap (λ (s : Shared). s.end) row.others) trying.free row.goes (acts-stay row.log.log.effects old new row.board row.acts) (r.claims has.tree has.attempt);
+      let gone = goes-end old new row.board owner row.unit has.tree (ap (λ (s : Shared). s.end) row.others) trying.free row.goes (acts-stay row.log.log.effects owner has.tree old new row.board row.acts) (r.claims has.tree has.attempt) going ticket in
+      subst (λ f. claimed new ticket ≡ but_gone (ended_by f old.board new.board) (claimed old ticket)) (sym row.found_is) gone;
 }
 
-none-ends : (old new : Shared) (owner : Name) (e : End) (found : Given) → Ends old owner e found new → GoneEnd old new
+none-ends : (old new : Shared) (owner : Name) (e : End) (found : Given) → Ends old owner e found new → FoundEnd found old new
 none-ends old new owner e found row going ticket = let no : false ≡ true = sym (ap (λ (s : Shared). is_going s.end) row.others) ∙ going in cc
 
 -- at a fault the run ends

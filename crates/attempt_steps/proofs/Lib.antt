@@ -1,14 +1,9 @@
-pub mod Aborting
 pub mod Again
 pub mod Children
-pub mod Committing
 pub mod Decided
-pub mod Effects
 pub mod Ended
 pub mod Ending
-pub mod Gone
-pub mod Letters
-pub mod Live
+pub mod Posted
 pub mod Taking
 pub mod Waits
 pub mod Wanting

@@ -3,8 +3,9 @@ use Rattle.std.proofs.Common.{◌≡◌, ◌∙◌, true, false, refl, sym, ap}
 use Rattle.std.specs.Option.{IsSome, option_map}
 use Rattle.std.specs.Prelude.{None, Option, Some, is_some}
 use Rattle.shared_world.specs.Ahead.{Ahead}
-use Rattle.attempt_steps.specs.Deciding.{IsTrying, IsWaitingUnit}
-use Rattle.attempt_steps.specs.Gone.{IsFree}
+use Rattle.attempt_commits.specs.Committing.{IsTrying}
+use Rattle.attempt_steps.specs.Deciding.{IsWaitingUnit}
+use Rattle.attempts_gone.specs.Gone.{IsFree}
 use Rattle.shared_world.proofs.Live.{unit-piece}
 use Rattle.shared_world.specs.Shared.{Shared}
 use Rattle.task_fork_join.specs.Attempt.{Attempt}

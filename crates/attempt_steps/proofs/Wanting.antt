@@ -1,42 +1,51 @@
 -- What is left for want of memory, and steps of tasks.
-use Rattle.std.proofs.Common.{◌≡◌, ◌∙◌, true, inl, inr, refl, sym, ap, subst}
+use Rattle.std.proofs.Common.{◌≡◌, ◌∙◌, ◌++◌, ℕ, true, false, inl, inr, length, take, drop, List, refl, sym, ap, subst}
 use Rattle.std.specs.Prelude.{◌⊎◌}
 use Rattle.std.specs.Option.{IsSome, option_and_then, option_map}
 use Rattle.std.specs.Prelude.{Err, IfSome, None, Ok, Option, Result, Some, is_some}
 use Rattle.std.specs.declared.alloc.AllocError.{AllocError}
 use Rattle.eval_step.specs.Evaluation.{Evaluation, IsOf, IsSame}
-use Rattle.attempt_steps.proofs.Decided.{at-attempt}
+use Rattle.attempt_commits.proofs.Committing.{at-attempt}
 use Rattle.attempt_steps.proofs.Again.{after-again, gone-again, root-again}
+use Rattle.attempt_steps.proofs.Posted.{IsPostedAgain, first-done, step-again, step-beside, step-posted-so, then-done}
 use Rattle.world_steps.proofs.Forking.{same-claimed, same-stands}
 use Rattle.world_steps.proofs.Settling.{same-claims}
 use Rattle.world_steps.specs.Kept.{IsSameBut}
 use Rattle.attempt_steps.specs.Tasks as left_as
-use Rattle.attempt_steps.specs.Tasks.{ComesAfter, HasCome, HasStepped, IsLeft, IsReadied, IsReadyTask, IsTaskIn, IsTaskOf, IsWanting, TaskCame}
+use Rattle.attempt_steps.specs.Tasks.{ComesAfter, HasCome, HasDoneNoMore, HasStepped, IsLeft, IsReadied, IsReadyTask, IsTaskIn, IsTaskOf, IsWanting, MayUndo, TaskCame, is_onward}
+use Rattle.serial_model.specs.declared.effect.Effect.{Effect}
 use Rattle.serial_model.specs.declared.halt.Halt.{Halt}
 use Rattle.serial_model.specs.declared.halt.Halt.TheVariants as halt
 use Rattle.serial_model.specs.declared.request.Request.TheVariants as request
 use Rattle.serial_model.specs.State.{UnitState}
 use Rattle.shared_world.proofs.ActorPieces.{actor_of_piece}
 use Rattle.shared_world.proofs.Live.{no-unit}
-use Rattle.shared_world.proofs.MarkedTasks.{left-again, left-ended, left-missing, left-settling}
+use Rattle.shared_world.proofs.MarkedTasks.{ended-beside, left-again, left-ended, left-missing, left-now, left-settling, missing-beside}
 use Rattle.shared_world.proofs.Marks.{pieces-marks}
-use Rattle.shared_world.proofs.Steps.{goes-with, marked-task, stepped}
+use Rattle.shared_world.proofs.Posting.{IsPosting, posting-rest}
+use Rattle.shared_world.proofs.Standing.{root-in}
+use Rattle.shared_world.proofs.Steps.{done-so, goes-with, marked-task, step-grown, stepped}
 use Rattle.shared_world.proofs.Ages.{same-age}
 use Rattle.shared_world.specs.Counts.{age_of}
 use Rattle.shared_world.specs.declared.given.Given.{Given}
 use Rattle.shared_world.specs.Gave.{GaveTask}
-use Rattle.shared_world.specs.Marks.{AreMarked, HasMarks}
+use Rattle.shared_world.specs.Marks.{AreMarked, AreMarkedBeside, HasMarks}
 use Rattle.shared_world.specs.Returned.{halt_of}
-use Rattle.shared_world.specs.rows.Tasks.{IsMarkedTask, StepsOn, TaskGives, outer_of}
+use Rattle.shared_world.specs.rows.Sending.{sends_in}
+use Rattle.shared_world.specs.rows.Tasks.{AfterStep, IsMarkedTask, StepPosts, StepsOn, TakesStep, TaskGives, outer_of}
+use Rattle.shared_world.specs.Seen.{done_by_root, done_in}
 use Rattle.shared_world.specs.Shared.{Shared, is_going, unit_state}
-use Rattle.shared_world.specs.Stands.{IsUnderWay, Stands, start_of}
-use Rattle.task_fork_join.proofs.StepShapes.{IsShaped, shaped}
-use Rattle.task_fork_join.specs.Attempt.{Attempt, IsKept, end_at, machine_of}
+use Rattle.shared_world.specs.Stands.{IsUnderWay, Stands}
+use Rattle.task_fork_join.proofs.Grown.{HasGrown}
+use Rattle.task_fork_join.proofs.Quiet.{HasStayed, is_loud, steps-stay}
+use Rattle.task_fork_join.proofs.StepShapes.{IsAfter, IsShaped, shaped}
+use Rattle.task_fork_join.specs.Attempt.{Attempt, IsKept, end_at, end_by, end_of, machine_of}
 use Rattle.task_fork_join.specs.declared.stepped.Stepped.{Stepped}
+use Rattle.task_fork_join.specs.declared.stepped.Stepped.TheVariants as stepped
 use Rattle.task_fork_join.specs.declared.task.Task.{Task}
 use Rattle.task_fork_join.specs.declared.task_end.TaskEnd.{TaskEnd}
-use Rattle.task_fork_join.specs.Running.{HasMachine}
 use Rattle.task_fork_join.specs.Step.{IsStep}
+use Rattle.task_fork_join.specs.Stepping.{is_missing}
 use Rattle.txn_snapshot.specs.SnapshotAnswer.{snapshot_of}
 use Rattle.unit_table.specs.Board.{Board, SameClaims, SamePieces, lent_to, piece_at}
 use Rattle.unit_table.specs.declared.mark.Mark.{Mark}
@@ -102,12 +111,13 @@ task-again old new owner task moved h same is = record {
   task_in = record {
     mark = is.task_in.mark;
     there = same.pieces task ∙ is.task_in.there;
+    of = ap (λ (s : Shared). named task s.owners) same.rest ∙ is.task_in.of;
     unit = is.task_in.unit;
     unit_there = ap (option_and_then unit_in) (same.pieces owner) ∙ is.task_in.unit_there;
     attempt = ap (λ (s : Shared). named owner s.attempts) same.rest ∙ is.task_in.attempt;
     among = is.task_in.among;
+    rooted = is.task_in.rooted;
   };
-  of = ap (λ (s : Shared). named task s.owners) same.rest ∙ is.of;
   machine = is.machine;
   kept = is.kept;
   same = is.same;
@@ -135,175 +145,207 @@ outer-same old new (halt.Value v) same = refl
 outer-same old new (halt.Fault code at) same = refl
 outer-same old new halt.Spent same = refl
 
--- A task of what is kept has taken a step, on the same with other room.
-module _ (old : Shared) (b : Board) (st : Stands old) (on_going : is_going old.end ≡ true) (same : SamePieces old.board b) (claims : SameClaims old.board b) (owner task : Name) (moved : Evaluation) (h : Halt) (is : IsTaskOf old owner task moved h)
-    (after : Attempt) (went : Stepped) (step : IsStep (snapshot_of old.versions is.tree.snapshot) task moved (outer_of b h) h is.tree after went) where
-  abbrev base : Shared
-  base = record old { attempts = with_named old.attempts owner after }
+-- an attempt that is not at its end has no root that is
+open-root : (escape : TaskEnd) (o : Option TaskEnd) → end_by escape o ≡ None → o ≡ None
+open-root escape None is = refl
+open-root escape (Some e) is = cc
 
-  abbrev mid : Shared
-  mid = record base { board = b }
+-- what a step of a task came to, whether it was taken or not
+pub record HasTaken (old mid : Shared) (owner task : Name) (moved : Evaluation) (h : Halt) (is : IsTaskOf old owner task moved h) (went : Stepped) : Type 0 where
+  pub after : Attempt
+  pub step : IsStep (snapshot_of old.versions is.tree.snapshot) task moved (outer_of old.board h) h is.tree after went
+  pub mid_is : mid ≡ record old { attempts = with_named old.attempts owner after }
+
+-- the step of an attempt that is written through
+pub taken : (old mid : Shared) (owner task : Name) (moved : Evaluation) (h : Halt) (is : IsTaskOf old owner task moved h) (went : Stepped)
+    → IfSome (named owner old.attempts) (λ tree. HasStepped (snapshot_of old.versions tree.snapshot) owner task moved (outer_of old.board h) h tree old.attempts mid.attempts went) → mid ≡ record old { attempts = mid.attempts }
+    → HasTaken old mid owner task moved h is went
+taken old mid owner task moved h is went step mid_is =
+    let did = at-attempt (named owner old.attempts) (λ (t : Attempt). HasStepped (snapshot_of old.versions t.snapshot) owner task moved (outer_of old.board h) h t old.attempts mid.attempts went) is.tree is.task_in.attempt step in
+    record { after = did.after; step = did.step; mid_is = mid_is ∙ ap (λ a. record old { attempts = a }) did.put }
+
+module _ (old mid : Shared) (st : Stands old) (on_going : is_going old.end ≡ true) (owner task : Name) (moved : Evaluation) (h : Halt) (is : IsTaskOf old owner task moved h) (went : Stepped) (t : HasTaken old mid owner task moved h is went) where
+  abbrev base : Shared
+  base = record old { attempts = with_named old.attempts owner t.after }
 
   halting : Halt
   halting = halt_of old.setup.program is.machine
 
-  on-old : IsStep (snapshot_of old.versions is.tree.snapshot) task moved (outer_of old.board (halt_of old.setup.program is.machine)) (halt_of old.setup.program is.machine) is.tree after went
-  on-old = subst (λ k. IsStep (snapshot_of old.versions is.tree.snapshot) task moved (outer_of old.board k) k is.tree after went) (sym is.halts_so)
-      (subst (λ o. IsStep (snapshot_of old.versions is.tree.snapshot) task moved o h is.tree after went) (outer-same old.board b h same) step)
+  step : IsStep (snapshot_of old.versions is.tree.snapshot) task moved (outer_of old.board (halt_of old.setup.program is.machine)) (halt_of old.setup.program is.machine) is.tree t.after went
+  step = subst (λ k. IsStep (snapshot_of old.versions is.tree.snapshot) task moved (outer_of old.board k) k is.tree t.after went) (sym is.halts_so) t.step
 
-  pub base-stands : Stands base
-  base-stands = stepped old st on_going owner task is.tree is.task_in.attempt is.machine moved is.kept is.same is.program after went on-old
+  base-stands : Stands base
+  base-stands = stepped old st on_going owner task is.tree is.task_in.attempt is.machine moved is.kept is.same is.program t.after went step
 
-  pub mid-stands : Stands mid
-  mid-stands = same-stands base mid base-stands (record { pieces = same; claims = claims; rest = refl })
+  kept : IsKept task moved is.tree.tasks
+  kept = kept-so is.tree task is.machine moved is.kept is.same
 
-  pub mid-task : IsTaskIn mid owner task after
-  mid-task = record {
+  shape : IsShaped is.tree.tasks task (outer_of old.board h) h went t.after.tasks
+  shape = shaped (snapshot_of old.versions is.tree.snapshot) task moved (outer_of old.board h) is.tree t.after went kept.task kept.there h t.step.comes
+
+  abbrev way : IsUnderWay old owner is.tree
+  way = st.attempts on_going owner is.tree is.task_in.attempt
+
+  abbrev root : (k : Task) × (named is.tree.root is.tree.tasks ≡ Some k)
+  root = root-in old owner is.tree way
+
+  abbrev grown : HasGrown t.after.tasks is.tree.root root.0
+  grown = step-grown old st.formed owner task is.tree way is.machine moved is.kept is.same is.program t.after went step
+
+  base-task : IsTaskIn base owner task t.after
+  base-task = record {
     mark = is.task_in.mark;
-    there = same task ∙ is.task_in.there;
+    there = is.task_in.there;
+    of = is.task_in.of;
     unit = is.task_in.unit;
-    unit_there = ap (option_and_then unit_in) (same owner) ∙ is.task_in.unit_there;
-    attempt = named-here owner after old.attempts;
+    unit_there = is.task_in.unit_there;
+    attempt = named-here owner t.after old.attempts;
     among = ap is_some shape.here;
+    rooted = subst IsSome (sym (ap (λ n. named n t.after.tasks) t.step.stays.root ∙ grown.there)) refl;
   }
+
+  -- what took the step stands
+  pub taken-stands : Stands mid
+  taken-stands = subst Stands (sym t.mid_is) base-stands
+
+  -- the task is in the attempt still
+  pub taken-task : IsTaskIn mid owner task t.after
+  taken-task = subst (λ (s : Shared). IsTaskIn s owner task t.after) (sym t.mid_is) base-task
+
+  -- ---- what the root has done
+  abbrev more : List Effect
+  more = grown.grown.more
+
+  does : done_by_root t.after ≡ done_by_root is.tree ++ more
+  does = done-so old st.formed owner task is.tree way is.machine moved is.kept is.same is.program t.after went step
+
+  -- by a step that does not go on, and does not end it, the root has done no more
+  no-more : end_at t.after ≡ None → is_onward went ≡ false → length (done_by_root t.after) ≡ length (done_by_root is.tree)
+  no-more unended still = ap length (ap done_in (ap (λ n. named n t.after.tasks) t.step.stays.root ∙ stays.there) ∙ stays.same ∙ sym (ap done_in root.1))
     where
-      kept : IsKept task moved is.tree.tasks
-      kept = kept-so is.tree task is.machine moved is.kept is.same
+      quiet : (w : Stepped) → went ≡ w → is_onward w ≡ false → is.tree.root ≡ task → is_loud w ≡ false
+      quiet stepped.Now e so at = so
+      quiet (stepped.WaitJoin f) e so at = so
+      quiet (stepped.Forked c) e so at = refl
+      quiet (stepped.NotInSnapshot ref) e so at = refl
+      quiet stepped.Finished e so at = absurd (subst (λ w. IsAfter is.tree.tasks (outer_of old.board h) h w shape.after) e shape.is (open-root t.after.escape (end_of shape.after.stage)
+          (ap (λ o. end_by t.after.escape (option_and_then (λ (k : Task). end_of k.stage) o)) (sym (ap (λ n. named n t.after.tasks) (t.step.stays.root ∙ at) ∙ shape.here)) ∙ unended)))
 
-      shape : IsShaped is.tree.tasks task (outer_of b h) h went after.tasks
-      shape = shaped (snapshot_of old.versions is.tree.snapshot) task moved (outer_of b h) is.tree after went kept.task kept.there h step.comes
+      stays : HasStayed t.after.tasks is.tree.root root.0
+      stays = steps-stay (snapshot_of old.versions is.tree.snapshot) task moved (outer_of old.board h) is.tree t.after went kept.task kept.there h t.step.comes is.tree.root root.0 root.1 (quiet went refl still)
 
-  -- what it comes to
-  pub step-came : end_at is.tree ≡ None → (new : Shared) (found : Given) → HasCome mid owner task went new found → GaveTask old task found new
-  step-came unended new found came = record {
+  pub done-no-more : (before : ℕ) → before ≡ length (done_by_root is.tree) → IfSome (named owner mid.attempts) (HasDoneNoMore before went)
+  done-no-more before so_much = subst (λ (s : Shared). IfSome (named owner s.attempts) (HasDoneNoMore before went)) (sym t.mid_is)
+      (subst (λ o. IfSome o (HasDoneNoMore before went)) (sym (named-here owner t.after old.attempts)) (λ unended still. no-more unended still ∙ sym so_much))
+
+  -- ---- the marks of all but the tasks of the attempt
+  beside : AreMarked old → end_at is.tree ≡ None → MayUndo base owner went → AreMarkedBeside base owner
+  beside marked before (inl missing) = by went refl missing
+    where
+      by : (w : Stepped) → went ≡ w → is_missing w ≡ true → AreMarkedBeside base owner
+      by (stepped.NotInSnapshot ref) e m = missing-beside old marked owner task is.task_in.unit is.tree is.task_in.mark is.task_in.there is.task_in.of is.task_in.unit_there is.task_in.attempt before is.machine moved is.kept t.after went step base-stands on_going ref e
+      by stepped.Now e m = cc
+      by (stepped.Forked c) e m = cc
+      by (stepped.WaitJoin f) e m = cc
+      by stepped.Finished e m = cc
+  beside marked before (inr ended) = by (end_at t.after) refl (at-attempt (named owner base.attempts) (λ (a : Attempt). true ≡ is_some (end_at a)) t.after (named-here owner t.after old.attempts) ended)
+    where
+      by : (o : Option TaskEnd) → end_at t.after ≡ o → true ≡ is_some o → AreMarkedBeside base owner
+      by None e so = cc
+      by (Some end) e so = ended-beside old marked owner task is.task_in.unit is.tree is.task_in.mark is.task_in.there is.task_in.of is.task_in.unit_there is.task_in.attempt before is.machine moved is.kept t.after went step base-stands on_going end e
+
+  pub taken-beside : AreMarked old → IfSome (named owner old.attempts) (λ tree. end_at tree ≡ None) → MayUndo mid owner went → AreMarkedBeside mid owner
+  taken-beside marked unended may = subst (λ (s : Shared). AreMarkedBeside s owner) (sym t.mid_is)
+      (beside marked (at-attempt (named owner old.attempts) (λ (a : Attempt). end_at a ≡ None) is.tree is.task_in.attempt unended) (subst (λ (s : Shared). MayUndo s owner went) t.mid_is may))
+
+  -- ---- what it comes to
+  came : end_at is.tree ≡ None → (before : ℕ) → before ≡ length (done_by_root is.tree) → (new : Shared) (found : Given) → HasCome base owner task before went new found → GaveTask old task found new
+  came unended before so_much new found c = record {
     owner = owner;
     unit = is.task_in.unit;
     tree = is.tree;
     mark = is.task_in.mark;
     there = is.task_in.there;
-    of = is.of;
+    of = is.task_in.of;
     unit_there = is.task_in.unit_there;
     attempt = is.task_in.attempt;
     gives = subst (λ o. TaskGives old owner is.task_in.unit task is.tree o (machine_of is.tree task) found new) (sym unended) (subst (λ m. StepsOn old owner is.task_in.unit task is.tree m found new) (sym is.kept) (record {
-      moved = moved;
-      same = is.same;
-      after = after;
-      went = went;
-      of = is.program;
-      step = on-old;
-      comes = after-again base b same owner is.task_in.unit task after went (end_at after) found new (came.row is.task_in.unit after (ap (option_and_then unit_in) (same owner) ∙ is.task_in.unit_there) (named-here owner after old.attempts));
+      by = record { moved = moved; same = is.same; after = t.after; went = went; of = is.program; step = step; more = more; does = does };
+      mid = record c.posted { attempts = old.attempts };
+      posts = posts;
+      comes = subst (λ (s : Shared). AfterStep s owner is.task_in.unit task t.after went (end_at t.after) found new) (sym whole) (c.row is.task_in.unit t.after is.task_in.unit_there (named-here owner t.after old.attempts));
     }));
-    claims = gone-again old mid new task same (same-claimed old mid' same-but) came.claims;
+    claims = c.claims;
   }
     where
-      mid' : Shared
-      mid' = record old { board = b }
+      posting : IsPosting base c.posted
+      posting = step-posted-so base owner t.after before c.posted (named-here owner t.after old.attempts) c.posts
 
-      same-but : IsSameBut old mid'
-      same-but = record { pieces = same; claims = claims; rest = refl }
+      whole : record c.posted { attempts = with_named old.attempts owner t.after } ≡ c.posted
+      whole = ap (λ a. record c.posted { attempts = a }) (sym (ap (λ (s : Shared). s.attempts) (posting-rest base c.posted posting)))
 
--- what a step of a task came to, whether it was taken or not
-pub record HasTaken (old mid : Shared) (owner task : Name) (moved : Evaluation) (h : Halt) (is : IsTaskOf old owner task moved h) (went : Stepped) : Type 0 where
-  pub after : Attempt
-  pub board : Board
-  pub same : SamePieces old.board board
-  pub claims : SameClaims old.board board
-  pub step : IsStep (snapshot_of old.versions is.tree.snapshot) task moved (outer_of board h) h is.tree after went
-  pub mid_is : mid ≡ record old { attempts = with_named old.attempts owner after; board = board }
+      posts : StepPosts (end_at t.after) (named owner old.aheads) old owner is.tree.root (sends_in (done_by_root is.tree)) (sends_in more) (record c.posted { attempts = old.attempts })
+      posts = subst (λ n. StepPosts (end_at t.after) (named owner old.aheads) old owner n (sends_in (done_by_root is.tree)) (sends_in more) (record c.posted { attempts = old.attempts })) t.step.stays.root
+          (subst (λ es. StepPosts (end_at t.after) (named owner old.aheads) old owner t.after.root (sends_in (done_by_root is.tree)) (sends_in es) (record c.posted { attempts = old.attempts })) (then-done t.after before (done_by_root is.tree) more does so_much)
+          (subst (λ es. StepPosts (end_at t.after) (named owner old.aheads) old owner t.after.root (sends_in es) (sends_in (drop before (done_by_root t.after))) (record c.posted { attempts = old.attempts })) (first-done t.after before (done_by_root is.tree) more does so_much)
+          (step-beside (end_at t.after) (named owner old.aheads) base owner t.after.root (sends_in (take before (done_by_root t.after))) (sends_in (drop before (done_by_root t.after))) c.posted old.attempts (c.posts t.after (named-here owner t.after old.attempts)))))
 
--- the step of an attempt that is written through
-pub taken : (old one mid : Shared) (owner task : Name) (moved : Evaluation) (h : Halt) (is : IsTaskOf old owner task moved h) (went : Stepped) → IsSameBut old one
-    → IfSome (named owner one.attempts) (λ tree. HasStepped (snapshot_of one.versions tree.snapshot) owner task moved (outer_of one.board h) h tree one.attempts mid.attempts went) → mid ≡ record one { attempts = mid.attempts }
-    → HasTaken old mid owner task moved h is went
-taken old one mid owner task moved h is went same step mid_is =
-    let there : named owner one.attempts ≡ Some is.tree = ap (λ (s : Shared). named owner s.attempts) same.rest ∙ is.task_in.attempt in
-    let did = at-attempt (named owner one.attempts) (λ (t : Attempt). HasStepped (snapshot_of one.versions t.snapshot) owner task moved (outer_of one.board h) h t one.attempts mid.attempts went) is.tree there step in
-    record {
-      after = did.after;
-      board = one.board;
-      same = same.pieces;
-      claims = same.claims;
-      step = subst (λ (s : Shared). IsStep (snapshot_of s.versions is.tree.snapshot) task moved (outer_of one.board h) h is.tree did.after went) same.rest did.step;
-      mid_is = mid_is ∙ ap (λ (s : Shared). record s { attempts = mid.attempts }) same.rest
-          ∙ ap (λ a. record old { attempts = a; board = one.board }) (did.put ∙ ap (λ (s : Shared). with_named s.attempts owner did.after) same.rest);
-    }
-
-module _ (old mid : Shared) (st : Stands old) (on_going : is_going old.end ≡ true) (owner task : Name) (moved : Evaluation) (h : Halt) (is : IsTaskOf old owner task moved h) (went : Stepped) (t : HasTaken old mid owner task moved h is went) where
-  -- what took the step stands
-  pub taken-stands : Stands mid
-  taken-stands = subst Stands (sym t.mid_is) (mid-stands old t.board st on_going t.same t.claims owner task moved h is t.after went t.step)
-
-  -- the task is in the attempt still
-  pub taken-task : IsTaskIn mid owner task t.after
-  taken-task = subst (λ (s : Shared). IsTaskIn s owner task t.after) (sym t.mid_is) (mid-task old t.board st on_going t.same t.claims owner task moved h is t.after went t.step)
-
-  pub taken-came : IfSome (named owner old.attempts) (λ tree. end_at tree ≡ None) → (new : Shared) (result : Result Given AllocError) → ComesAfter mid owner task went new result → TaskCame old task new result
-  taken-came unended new (Ok found) came =
-      step-came old t.board st on_going t.same t.claims owner task moved h is t.after went t.step (at-attempt (named owner old.attempts) (λ (a : Attempt). end_at a ≡ None) is.tree is.task_in.attempt unended) new found (subst (λ (s : Shared). HasCome s owner task went new found) t.mid_is came)
-  taken-came unended new (Err e) came = left came
+  pub taken-came : IfSome (named owner old.attempts) (λ tree. end_at tree ≡ None) → (before : ℕ) → IfSome (named owner old.attempts) (λ tree. IsSome (named tree.root tree.tasks) → before ≡ length (done_by_root tree)) → (new : Shared) (result : Result Given AllocError)
+      → ComesAfter mid owner task before went new result → TaskCame old task new result
+  taken-came unended before so_much new (Ok found) c =
+      came (at-attempt (named owner old.attempts) (λ (a : Attempt). end_at a ≡ None) is.tree is.task_in.attempt unended) before (at-attempt (named owner old.attempts) (λ (a : Attempt). IsSome (named a.root a.tasks) → before ≡ length (done_by_root a)) is.tree is.task_in.attempt so_much is.task_in.rooted) new found
+      (subst (λ (s : Shared). HasCome s owner task before went new found) t.mid_is c)
+  taken-came unended before so_much new (Err e) c = left (subst (λ (s : Shared). IsLeft s owner task went new) t.mid_is c)
     where
-      mid-piece : (q : Name) → piece_at mid.board q ≡ piece_at old.board q
-      mid-piece q = ap (λ (s : Shared). piece_at s.board q) t.mid_is ∙ t.same q
-
-      mid-lent : (k : Ticket) → lent_to mid.board k ≡ lent_to old.board k
-      mid-lent k = ap (λ (s : Shared). lent_to s.board k) t.mid_is ∙ t.claims.to k
-
-      on-base : new ≡ record mid { board = new.board } → new ≡ record old { attempts = with_named old.attempts owner t.after; board = new.board }
-      on-base is = is ∙ ap (λ (s : Shared). record s { board = new.board }) t.mid_is
-
-      rest-so : new ≡ record old { attempts = with_named old.attempts owner t.after; board = new.board } → new ≡ record old { attempts = new.attempts; board = new.board }
+      rest-so : new ≡ record base { board = new.board } → new ≡ record old { attempts = new.attempts; board = new.board }
       rest-so is = is ∙ ap (λ a. record old { attempts = a; board = new.board }) (sym (ap (λ (s : Shared). s.attempts) is))
 
-      ages-so : new ≡ record old { attempts = with_named old.attempts owner t.after; board = new.board } → (u : Name) → age_of new u ≡ age_of old u
+      ages-so : new ≡ record base { board = new.board } → (u : Name) → age_of new u ≡ age_of old u
       ages-so so u = ap (λ (s : Shared). age_of s u) so ∙ same-age old owner is.tree t.after is.task_in.attempt t.step.stays.snapshot u
 
-      before : end_at is.tree ≡ None
-      before = at-attempt (named owner old.attempts) (λ (a : Attempt). end_at a ≡ None) is.tree is.task_in.attempt unended
+      unended_so : end_at is.tree ≡ None
+      unended_so = at-attempt (named owner old.attempts) (λ (a : Attempt). end_at a ≡ None) is.tree is.task_in.attempt unended
 
-      step : IsStep (snapshot_of old.versions is.tree.snapshot) task moved (outer_of old.board (halt_of old.setup.program is.machine)) (halt_of old.setup.program is.machine) is.tree t.after went
-      step = on-old old t.board st on_going t.same t.claims owner task moved h is t.after went t.step
-
-      mid-ended : IfSome (named owner mid.attempts) (λ tree. true ≡ is_some (end_at tree)) → (e : TaskEnd) × (end_at t.after ≡ Some e)
-      mid-ended ended = by (end_at t.after) refl (at-attempt (named owner mid.attempts) (λ (a : Attempt). true ≡ is_some (end_at a)) t.after (ap (λ (s : Shared). named owner s.attempts) t.mid_is ∙ named-here owner t.after old.attempts) ended)
+      ended-so : IfSome (named owner base.attempts) (λ tree. true ≡ is_some (end_at tree)) → (e : TaskEnd) × (end_at t.after ≡ Some e)
+      ended-so ended = by (end_at t.after) refl (at-attempt (named owner base.attempts) (λ (a : Attempt). true ≡ is_some (end_at a)) t.after (named-here owner t.after old.attempts) ended)
         where
           by : (o : Option TaskEnd) → end_at t.after ≡ o → true ≡ is_some o → (e : TaskEnd) × (end_at t.after ≡ Some e)
           by None so e = cc
           by (Some end) so e = (end, so)
 
-      readied-task : (w : Work) → IsReadied w mid task new → IsMarkedTask (record old { attempts = with_named old.attempts owner t.after }) task (mark.Ready w) new
-      readied-task w readied = record { set = record { here = readied.marked.set.here; others = λ other ne. readied.marked.set.others other ne ∙ mid-piece other }; others = on-base readied.marked.others }
-
       -- the task is ready for that
-      readied-left : (w : Work) → (w ≡ work.Eval) ⊎ (w ≡ work.Settle) → IsReadied w mid task new → (HasMarks old → AreMarked new) → IsWanting old task new
+      readied-left : (w : Work) → (w ≡ work.Eval) ⊎ (w ≡ work.Settle) → IsReadied w base task new → (HasMarks old → AreMarked new) → IsWanting old task new
       readied-left w kind readied marks = record {
-        stands = marked-task mid taken-stands task (mark.Ready w) new (no-unit mid.board task is.task_in.mark (mid-piece task ∙ is.task_in.there), ap actor_of_piece (mid-piece task ∙ is.task_in.there)) readied.marked;
+        stands = marked-task base base-stands task (mark.Ready w) new (no-unit base.board task is.task_in.mark is.task_in.there, ap actor_of_piece is.task_in.there) readied.marked;
         here = inr (record { what = w; left = kind; is = readied.marked.set.here });
-        others = λ other ne. readied.marked.set.others other ne ∙ mid-piece other;
-        claims = λ ticket free. readied.claims ticket (λ lent. free (sym (mid-lent ticket) ∙ lent)) ∙ mid-lent ticket;
-        ages = ages-so (on-base readied.marked.others);
+        others = λ other ne. readied.marked.set.others other ne;
+        claims = readied.claims;
+        ages = ages-so readied.marked.others;
         marks = λ right going. marks right;
-        rest = rest-so (on-base readied.marked.others);
+        rest = rest-so readied.marked.others;
       }
 
-      left : IsLeft mid owner task went new → IsWanting old task new
+      left : IsLeft base owner task went new → IsWanting old task new
       left (left_as.misses held same) = record {
-        stands = same-stands mid new taken-stands same;
-        here = inl (same.pieces task ∙ mid-piece task);
-        others = λ other ne. same.pieces other ∙ mid-piece other;
-        claims = λ ticket free. same.claims.to ticket ∙ mid-lent ticket;
-        ages = ages-so (on-base same.rest);
-        marks = λ marks going. left-missing old st (marks on_going) on_going owner task is.task_in.unit is.tree is.task_in.mark is.task_in.there is.of is.task_in.unit_there is.task_in.attempt before is.machine moved is.kept t.after went step new held
-            (same.pieces task ∙ mid-piece task ∙ is.task_in.there) (λ q other. same.pieces q ∙ mid-piece q) (on-base same.rest);
-        rest = rest-so (on-base same.rest);
+        stands = same-stands base new base-stands same;
+        here = inl (same.pieces task);
+        others = λ other ne. same.pieces other;
+        claims = λ ticket free. same.claims.to ticket;
+        ages = ages-so same.rest;
+        marks = λ marks going. left-missing old (marks on_going) owner task is.task_in.unit is.tree is.task_in.mark is.task_in.there is.task_in.of is.task_in.unit_there is.task_in.attempt unended_so is.machine moved is.kept t.after went step base-stands on_going new held
+            (same.pieces task ∙ is.task_in.there) (λ q other. same.pieces q) same.rest;
+        rest = rest-so same.rest;
       }
+      left (left_as.goes now readied) = readied-left work.Eval (inl refl) readied
+          (λ marks. left-now old (marks on_going) owner task is.task_in.unit is.tree is.task_in.mark is.task_in.there is.task_in.of is.task_in.unit_there is.task_in.attempt unended_so is.machine moved is.kept t.after went step base-stands on_going new now readied.marked)
       left (left_as.again future waits readied) = readied-left work.Eval (inl refl) readied
-          (λ marks. left-again old st (marks on_going) on_going owner task is.task_in.unit is.tree is.task_in.mark is.task_in.there is.of is.task_in.unit_there is.task_in.attempt before is.machine moved is.kept t.after went step new future waits
-          (readied-task work.Eval readied))
+          (λ marks. left-again old (marks on_going) owner task is.task_in.unit is.tree is.task_in.mark is.task_in.there is.task_in.of is.task_in.unit_there is.task_in.attempt unended_so is.machine moved is.kept t.after went step base-stands on_going new future waits
+          readied.marked)
       left (left_as.settles ended readied) = readied-left work.Settle (inr refl) readied
           (λ marks.
-          let end = mid-ended ended in
-          left-ended old st (marks on_going) on_going owner task is.task_in.unit is.tree is.task_in.mark is.task_in.there is.of is.task_in.unit_there is.task_in.attempt before is.machine moved is.kept t.after went step new end.0 end.1
-          (readied-task work.Settle readied))
+          let end = ended-so ended in
+          left-ended old (marks on_going) owner task is.task_in.unit is.tree is.task_in.mark is.task_in.there is.task_in.of is.task_in.unit_there is.task_in.attempt unended_so is.machine moved is.kept t.after went step base-stands on_going new end.0 end.1
+          readied.marked)
 
 -- what is as it was is the same but for room
 pub same-itself : (s : Shared) → IsSameBut s s
@@ -321,21 +363,34 @@ gave-again old b same claims task found new g = record {
   unit_there = ap (option_and_then unit_in) (sym (same g.owner)) ∙ g.unit_there;
   attempt = g.attempt;
   gives = on (end_at g.tree) (machine_of g.tree task) g.gives;
-  claims = gone-again old (record old { board = b }) new task same (same-claimed old (record old { board = b }) (record { pieces = same; claims = claims; rest = refl })) g.claims;
+  claims = gone-again found old (record old { board = b }) new task (λ q. ap is_some (same q)) (same-claimed old (record old { board = b }) (record { pieces = same; claims = claims; rest = refl })) g.claims;
 }
   where
-    on : (ended : Option TaskEnd) (machine : Option Evaluation) → TaskGives (record old { board = b }) g.owner g.unit task g.tree ended machine found new → TaskGives old g.owner g.unit task g.tree ended machine found new
-    on (Some ended) machine r = root-again old b same g.owner g.unit task g.tree ended found new r
-    on None None r = absurd r
-    on None (Some machine) r = record {
-      moved = r.moved;
-      same = r.same;
-      after = r.after;
-      went = r.went;
-      of = r.of;
-      step = subst (λ o. IsStep (snapshot_of old.versions g.tree.snapshot) task r.moved o (halt_of old.setup.program machine) g.tree r.after r.went) (outer-same old.board b (halt_of old.setup.program machine) same) r.step;
-      comes = after-again (record old { attempts = with_named old.attempts g.owner r.after }) b same g.owner g.unit task r.after r.went (end_at r.after) found new r.comes;
+    steps : (machine : Evaluation) → TakesStep (record old { board = b }) g.owner g.unit task g.tree machine found new → TakesStep old g.owner g.unit task g.tree machine found new
+    steps machine r = record {
+      by = record {
+        moved = r.by.moved;
+        same = r.by.same;
+        after = r.by.after;
+        went = r.by.went;
+        of = r.by.of;
+        step = subst (λ o. IsStep (snapshot_of old.versions g.tree.snapshot) task r.by.moved o (halt_of old.setup.program machine) g.tree r.by.after r.by.went) (outer-same old.board b (halt_of old.setup.program machine) same) r.by.step;
+        more = r.by.more;
+        does = r.by.does;
+      };
+      mid = again.on;
+      posts = again.post;
+      comes = after-again (record again.on { attempts = with_named again.on.attempts g.owner r.by.after }) r.mid.board again.same again.claims.lent g.owner g.unit task r.by.after r.by.went (end_at r.by.after) found new
+          (subst (λ (s : Shared). AfterStep (record s { attempts = with_named s.attempts g.owner r.by.after }) g.owner g.unit task r.by.after r.by.went (end_at r.by.after) found new) again.rest r.comes);
     }
+      where
+        again : IsPostedAgain old r.mid (StepPosts (end_at r.by.after) (named g.owner old.aheads) old g.owner g.tree.root (sends_in (done_by_root g.tree)) (sends_in r.by.more))
+        again = step-again (end_at r.by.after) (named g.owner old.aheads) old b g.owner g.tree.root (sends_in (done_by_root g.tree)) (sends_in r.by.more) r.mid same claims r.posts
+
+    on : (ended : Option TaskEnd) (machine : Option Evaluation) → TaskGives (record old { board = b }) g.owner g.unit task g.tree ended machine found new → TaskGives old g.owner g.unit task g.tree ended machine found new
+    on (Some ended) machine r = root-again old b same claims.lent g.owner g.unit task g.tree ended found new r
+    on None None r = absurd r
+    on None (Some machine) r = steps machine r
 
 pub came-again : (old one new : Shared) (task : Name) (result : Result Given AllocError) → IsSameBut old one → TaskCame one task new result → TaskCame old task new result
 came-again old one new task (Ok found) same came = gave-again old one.board same.pieces same.claims task found new (subst (λ (s : Shared). GaveTask s task found new) same.rest came)

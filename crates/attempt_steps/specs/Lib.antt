@@ -1,7 +1,5 @@
 pub mod Deciding
-pub mod Deeds
-pub mod Gone
-pub mod Live
+pub mod Ending
 pub mod Tasks
 pub mod Undoing
 pub mod Waiting

@@ -1,11 +1,12 @@
 -- Tasks of attempts that take a step.
-use Rattle.std.specs.Prelude.{◌≡◌, ◌⊎◌, ℕ, Err, IfSome, None, Ok, Option, Result, Some, is_some, true, ⊤}
+use Rattle.std.specs.Prelude.{◌≡◌, ◌⊎◌, ℕ, Bool, Err, IfSome, None, Ok, Option, Result, Some, drop, is_some, length, take, false, true, ⊤}
 use Rattle.std.specs.declared.alloc.AllocError.{AllocError}
+use Rattle.std.specs.Option.{IsSome}
 use Rattle.eval_step.specs.Evaluation.{Evaluation, IsAsk, IsAsking, IsOf, IsSame}
 use Rattle.world_steps.specs.declared.kept.Kept.{Kept}
 use Rattle.attempt_steps.specs.declared.tasks.Child.{Child}
-use Rattle.attempt_steps.specs.Gone.{GoneEnd}
-use Rattle.attempt_steps.specs.Undoing.{HasAttempt}
+use Rattle.attempts_gone.specs.Dropping.{HasAttempt}
+use Rattle.attempt_sends.specs.Putting.{ArePosted}
 use Rattle.world_steps.specs.Kept.{IsSameBut}
 use Rattle.ref_store.specs.Store.{versions_of}
 use Rattle.ref_store.specs.Version.{newest}
@@ -18,9 +19,10 @@ use Rattle.shared_world.specs.declared.given.Given.TheVariants as given
 use Rattle.shared_world.specs.Gave.{GaveTask, gone_with}
 use Rattle.shared_world.specs.Returned.{halt_of}
 use Rattle.shared_world.specs.rows.Pieces.{ClaimsEnd}
-use Rattle.shared_world.specs.Marks.{HasMarks}
-use Rattle.shared_world.specs.rows.Attempts.{Aborts}
-use Rattle.shared_world.specs.rows.Tasks.{AfterStep, Forked, IsMarkedTask, Missing, RootGives}
+use Rattle.shared_world.specs.Marks.{AreMarkedBeside, HasMarks}
+use Rattle.shared_world.specs.rows.Sending.{sends_in}
+use Rattle.shared_world.specs.rows.Tasks.{AfterStep, Forked, IsMarkedTask, Missing, RootGives, StepPosts}
+use Rattle.shared_world.specs.Seen.{done_by_root}
 use Rattle.task_fork_join.specs.Stepping.{is_missing}
 use Rattle.shared_world.specs.Shared.{Shared}
 use Rattle.shared_world.specs.Stands.{Stands}
@@ -29,7 +31,7 @@ use Rattle.task_fork_join.specs.declared.stepped.Stepped.{Stepped}
 use Rattle.task_fork_join.specs.declared.stepped.Stepped.TheVariants as stepped
 use Rattle.task_fork_join.specs.declared.task_end.TaskEnd.{TaskEnd}
 use Rattle.task_fork_join.specs.Step.{IsStep}
-use Rattle.unit_table.specs.Board.{Board, HasPlace, IsUnlent, lent_to, piece_at, unit_at}
+use Rattle.unit_table.specs.Board.{Board, HasPlace, IsUnlent, SameClaims, lent_to, piece_at, unit_at}
 use Rattle.unit_table.specs.declared.mark.Mark.{Mark}
 use Rattle.unit_table.specs.declared.mark.Mark.TheVariants as mark
 use Rattle.unit_table.specs.declared.mark.WaitOn.TheVariants as wait
@@ -47,16 +49,17 @@ use Rattle.value_core.specs.Placed.{HasPlace as HasOwnerPlace}
 pub record IsTaskIn (s : Shared) (owner task : Name) (tree : Attempt) : Type 0 where
   pub mark : Mark
   pub there : piece_at s.board task ≡ Some (piece.Task mark)
+  pub of : named task s.owners ≡ Some owner
   pub unit : Unit
   pub unit_there : unit_at s.board owner ≡ Some unit
   pub attempt : named owner s.attempts ≡ Some tree
   pub among : is_some (named task tree.tasks) ≡ true
+  pub rooted : IsSome (named tree.root tree.tasks)
 
 -- such a task whose machine was moved to that halt
 pub record IsTaskOf (s : Shared) (owner task : Name) (moved : Evaluation) (h : Halt) : Type 0 where
   pub tree : Attempt
   pub task_in : IsTaskIn s owner task tree
-  pub of : named task s.owners ≡ Some owner
   pub machine : Evaluation
   pub kept : machine_of tree task ≡ Some machine
   pub same : IsSame machine moved
@@ -150,62 +153,98 @@ pub record HasForkedTask (old : Shared) (owner task child : Name) (new : Shared)
   pub forked : Forked old owner task child new
   pub unlent : IsUnlent task old.board new.board
 
--- the task waits for the finish of that one; or for want of memory it can be evaluated again
-pub record IsWaitingTask (old : Shared) (task future : Name) (new : Shared) (found : Given) : Type 0 where
+-- what the root of the attempt has sent since it had done so much is put at once, or kept; no claim ends by it
+pub record HasPosted (old : Shared) (owner : Name) (before : ℕ) (new : Shared) : Type 0 where
+  pub posts : ArePosted old owner before new
+  pub claims : SameClaims old.board new.board
+
+-- that is posted, and the task can go on; or for want of memory it can be evaluated again, and nothing is
+pub record HasGoneOn (old : Shared) (owner task : Name) (before : ℕ) (new : Shared) (found : Given) : Type 0 where
+  pub posted : Shared
+  pub is_posted : HasPosted old owner before posted
+  pub found_is : found ≡ given.Local
+  pub marked : TaskMarked posted task (mark.Ready work.Eval) new
+
+abbrev pub GoesOnOr : Shared → Name → Name → ℕ → Shared → Result Given AllocError → Type 0
+GoesOnOr old owner task before new (Ok found) = HasGoneOn old owner task before new found
+GoesOnOr old owner task before new (Err e) = TaskMarked old task (mark.Ready work.Eval) new
+
+-- that is posted, and the task waits for the finish of that one; or for want of memory it can be evaluated again, and nothing is
+pub record IsWaitingTask (old : Shared) (owner task future : Name) (before : ℕ) (new : Shared) (found : Given) : Type 0 where
+  pub posted : Shared
+  pub is_posted : HasPosted old owner before posted
   pub found_is : found ≡ given.Waiting (wait.Finish future)
-  pub marked : TaskMarked old task (mark.Waiting (wait.Finish future)) new
+  pub marked : TaskMarked posted task (mark.Waiting (wait.Finish future)) new
 
-abbrev pub TaskWaits : Shared → Name → Name → Shared → Result Given AllocError → Type 0
-TaskWaits old task future new (Ok found) = IsWaitingTask old task future new found
-TaskWaits old task future new (Err e) = TaskMarked old task (mark.Ready work.Eval) new
-
--- the attempt is undone for that version of a ref that its snapshot does not have; or for want of memory nothing changes
-pub record HasUndoneFor (old : Shared) (owner ref : Name) (version : ℕ) (new : Shared) (found : Given) : Type 0 where
-  pub row : (x : Unit) (tree : Attempt) → unit_at old.board owner ≡ Some x → named owner old.attempts ≡ Some tree → Aborts old owner x tree ref version found new
-  pub claims : GoneEnd old new
-
-abbrev pub UndoesOr : Shared → Name → Name → ℕ → Shared → Result Given AllocError → Type 0
-UndoesOr old owner ref version new (Ok found) = HasUndoneFor old owner ref version new found
-UndoesOr old owner ref version new (Err e) = IsSameBut old new
+abbrev pub TaskWaits : Shared → Name → Name → Name → ℕ → Shared → Result Given AllocError → Type 0
+TaskWaits old owner task future before new (Ok found) = IsWaitingTask old owner task future before new found
+TaskWaits old owner task future before new (Err e) = TaskMarked old task (mark.Ready work.Eval) new
 
 -- what comes of a ref that the snapshot does not have; or for want of memory nothing changes
 pub record HasMissed (old : Shared) (owner task ref : Name) (new : Shared) (found : Given) : Type 0 where
   pub row : (x : Unit) (tree : Attempt) → unit_at old.board owner ≡ Some x → named owner old.attempts ≡ Some tree → Missing old owner x task tree ref (newest (versions_of old.versions ref)) found new
-  pub claims : ClaimsEnd (gone_with old.board new.board task) old new
+  pub claims : ClaimsEnd (gone_with found old.board new.board task) old new
 
 abbrev pub MissesOr : Shared → Name → Name → Name → Shared → Result Given AllocError → Type 0
 MissesOr old owner task ref new (Ok found) = HasMissed old owner task ref new found
 MissesOr old owner task ref new (Err e) = IsSameBut old new
 
--- what comes of an attempt whose root is at its end; or for want of memory nothing changes
-pub record HasDecidedAt (old : Shared) (owner task : Name) (new : Shared) (found : Given) : Type 0 where
-  pub row : (x : Unit) (tree : Attempt) (ended : TaskEnd) → unit_at old.board owner ≡ Some x → named owner old.attempts ≡ Some tree → end_at tree ≡ Some ended → RootGives old owner x task tree ended found new
-  pub claims : (tree : Attempt) (ended : TaskEnd) → named owner old.attempts ≡ Some tree → end_at tree ≡ Some ended → ClaimsEnd (gone_with old.board new.board task) old new
+-- What the root has done since it had done so much is sent: it is put at once, or kept. Where it is at its end and its unit stands where the
+-- history left it, nothing is put.
+abbrev pub StepPosted : Shared → Name → ℕ → Shared → Type 0
+StepPosted old owner before posted = (tree : Attempt) → named owner old.attempts ≡ Some tree
+    → StepPosts (end_at tree) (named owner old.aheads) old owner tree.root (sends_in (take before (done_by_root tree))) (sends_in (drop before (done_by_root tree))) posted
 
-abbrev pub DecidesOr : Shared → Name → Name → Shared → Result Given AllocError → Type 0
-DecidesOr old owner task new (Ok found) = HasDecidedAt old owner task new found
-DecidesOr old owner task new (Err e) = IsSameBut old new
+-- what comes of an attempt whose root is at its end; or for want of memory nothing changes
+pub record HasDecidedAt (old : Shared) (owner task : Name) (before : ℕ) (new : Shared) (found : Given) : Type 0 where
+  pub posted : Shared
+  pub posts : StepPosted old owner before posted
+  pub row : (x : Unit) (tree : Attempt) (ended : TaskEnd) → unit_at old.board owner ≡ Some x → named owner old.attempts ≡ Some tree → end_at tree ≡ Some ended → RootGives posted owner x task tree ended found new
+  pub claims : ClaimsEnd (gone_with found old.board new.board task) old new
+
+abbrev pub DecidesOr : Shared → Name → Name → ℕ → Shared → Result Given AllocError → Type 0
+DecidesOr old owner task before new (Ok found) = (tree : Attempt) (ended : TaskEnd) → named owner old.attempts ≡ Some tree → end_at tree ≡ Some ended → HasDecidedAt old owner task before new found
+DecidesOr old owner task before new (Err e) = IsSameBut old new
 
 -- the same, but for want of memory the task is ready to settle
-abbrev pub DecidedOrWaits : Shared → Name → Name → Shared → Result Given AllocError → Type 0
-DecidedOrWaits old owner task new (Ok found) = HasDecidedAt old owner task new found
-DecidedOrWaits old owner task new (Err e) = IsReadied work.Settle old task new
+abbrev pub DecidedOrWaits : Shared → Name → Name → ℕ → Shared → Result Given AllocError → Type 0
+DecidedOrWaits old owner task before new (Ok found) = (tree : Attempt) (ended : TaskEnd) → named owner old.attempts ≡ Some tree → end_at tree ≡ Some ended → HasDecidedAt old owner task before new found
+DecidedOrWaits old owner task before new (Err e) = IsReadied work.Settle old task new
 
--- what comes of a task that has taken a step
-pub record HasCome (mid : Shared) (owner task : Name) (went : Stepped) (new : Shared) (found : Given) : Type 0 where
-  pub row : (x : Unit) (tree : Attempt) → unit_at mid.board owner ≡ Some x → named owner mid.attempts ≡ Some tree → AfterStep mid owner x task tree went (end_at tree) found new
-  pub claims : ClaimsEnd (gone_with mid.board new.board task) mid new
+-- a step by which a task goes on, or waits for another one
+abbrev pub is_onward : Stepped → Bool
+is_onward stepped.Now = true
+is_onward (stepped.WaitJoin future) = true
+is_onward (stepped.Forked child) = false
+is_onward (stepped.NotInSnapshot ref) = false
+is_onward stepped.Finished = false
 
--- For want of memory a step that waits for a ref changes nothing else; one that waits for a finish can be evaluated again; and
+-- by another one that does not end it the root of the attempt has done no more than that
+abbrev pub HasDoneNoMore : ℕ → Stepped → Attempt → Type 0
+HasDoneNoMore before went tree = end_at tree ≡ None → is_onward went ≡ false → length (done_by_root tree) ≡ before
+
+-- the attempt may be undone by it
+abbrev pub MayUndo : Shared → Name → Stepped → Type 0
+MayUndo s owner went = (is_missing went ≡ true) ⊎ IfSome (named owner s.attempts) (λ tree. true ≡ is_some (end_at tree))
+
+-- what comes of a task that has taken a step, before which the root of the attempt had done so much
+pub record HasCome (mid : Shared) (owner task : Name) (before : ℕ) (went : Stepped) (new : Shared) (found : Given) : Type 0 where
+  pub posted : Shared
+  pub posts : StepPosted mid owner before posted
+  pub row : (x : Unit) (tree : Attempt) → unit_at mid.board owner ≡ Some x → named owner mid.attempts ≡ Some tree → AfterStep posted owner x task tree went (end_at tree) found new
+  pub claims : ClaimsEnd (gone_with found mid.board new.board task) mid new
+
+-- For want of memory a step that waits for a ref changes nothing else; one that goes on or waits for a finish can be evaluated again; and
 -- where the root is at its end, the task is ready to settle.
 pub data IsLeft (mid : Shared) (owner task : Name) (went : Stepped) (new : Shared) : Type 0 where
   misses : is_missing went ≡ true → IsSameBut mid new → IsLeft mid owner task went new
+  goes : went ≡ stepped.Now → IsReadied work.Eval mid task new → IsLeft mid owner task went new
   again : (future : Name) → went ≡ stepped.WaitJoin future → IsReadied work.Eval mid task new → IsLeft mid owner task went new
   settles : IfSome (named owner mid.attempts) (λ tree. true ≡ is_some (end_at tree)) → IsReadied work.Settle mid task new → IsLeft mid owner task went new
 
-abbrev pub ComesAfter : Shared → Name → Name → Stepped → Shared → Result Given AllocError → Type 0
-ComesAfter mid owner task went new (Ok found) = HasCome mid owner task went new found
-ComesAfter mid owner task went new (Err e) = IsLeft mid owner task went new
+abbrev pub ComesAfter : Shared → Name → Name → ℕ → Stepped → Shared → Result Given AllocError → Type 0
+ComesAfter mid owner task before went new (Ok found) = HasCome mid owner task before went new found
+ComesAfter mid owner task before went new (Err e) = IsLeft mid owner task went new
 
 -- what a task comes to
 abbrev pub TaskCame : Shared → Name → Shared → Result Given AllocError → Type 0

@@ -1,54 +1,20 @@
--- Attempts that go.
-use Rattle.std.specs.Prelude.{◌≡◌, ◌&&◌, ℕ, List, Err, Ok, Result, Some, cond}
+-- Attempts that are undone.
+use Rattle.std.specs.Prelude.{◌≡◌, ℕ, Err, Ok, Result, Some}
 use Rattle.std.specs.declared.alloc.AllocError.{AllocError}
+use Rattle.attempt_steps.specs.Ending.{FoundEnd}
 use Rattle.world_steps.specs.Kept.{IsSameBut}
 use Rattle.shared_world.specs.declared.given.Given.{Given}
-use Rattle.shared_world.specs.declared.given.Given.TheVariants as given
-use Rattle.shared_world.specs.rows.Attempts.{Aborts, IsWithout}
-use Rattle.shared_world.specs.rows.Pieces.{ClaimsEnd, but_gone, is_task, piece_or_task, task_gone}
+use Rattle.shared_world.specs.rows.Undoing.{Aborts}
 use Rattle.shared_world.specs.Shared.{Shared}
-use Rattle.task_fork_join.specs.Attempt.{Attempt, names_in}
-use Rattle.unit_table.specs.Board.{Board, lent_to, piece_at, unit_at}
+use Rattle.task_fork_join.specs.Attempt.{Attempt}
+use Rattle.unit_table.specs.Board.{unit_at}
 use Rattle.unit_table.specs.declared.unit.Unit.{Unit}
-use Rattle.value_core.specs.declared.ticket.Ticket.{Ticket}
-use Rattle.value_core.specs.Named.{Name, Named, is_among, named, same_name}
+use Rattle.value_core.specs.Named.{Name, named}
 
--- the task of that name is gone, where it is one, and the claim on it
-pub record IsTaskGone (name : Name) (old new : Board) : Type 0 where
-  pub here : piece_at new name ≡ task_gone (piece_at old name)
-  pub others : (other : Name) → (other ≡ name → ⊥) → piece_at new other ≡ piece_at old other
-  pub claims : (ticket : Ticket) → lent_to new ticket ≡ but_gone (λ q. same_name q name && is_task (piece_at old name)) (lent_to old ticket)
-
--- the tasks of these names are gone, and the claims on them
-pub record TasksGone (names : List Name) (old new : Board) : Type 0 where
-  pub pieces : (name : Name) → piece_at new name ≡ cond (is_among name names) (task_gone (piece_at old name)) (piece_at old name)
-  pub claims : (ticket : Ticket) → lent_to new ticket ≡ but_gone (λ q. is_among q names && is_task (piece_at old q)) (lent_to old ticket)
-
--- Of these names some are left: once their tasks are gone too, those of all are.
-pub record AreLeft (all left : List Name) (old now : Board) : Type 0 where
-  pub pieces : (name : Name) → cond (is_among name left) (task_gone (piece_at now name)) (piece_at now name) ≡ cond (is_among name all) (task_gone (piece_at old name)) (piece_at old name)
-  pub claims : (ticket : Ticket) → but_gone (λ q. is_among q left && is_task (piece_at now q)) (lent_to now ticket) ≡ but_gone (λ q. is_among q all && is_task (piece_at old q)) (lent_to old ticket)
-
--- the unit is there, and has an attempt
-pub record HasAttempt (s : Shared) (owner : Name) : Type 0 where
-  pub unit : Unit
-  pub there : unit_at s.board owner ≡ Some unit
-  pub tree : Attempt
-  pub attempt : named owner s.attempts ≡ Some tree
-
--- the attempt of the unit is gone, and its tasks are
-pub record IsUndone (owner : Name) (attempts : Named Attempt) (board : Board) (left : Named Attempt) (after : Board) : Type 0 where
-  pub gone : IsWithout owner attempts left
-  pub tasks : (tree : Attempt) → named owner attempts ≡ Some tree → TasksGone (names_in tree.tasks) board after
-
--- the attempt is undone; or for want of memory nothing changes
+-- the attempt is undone with all that hangs on it; or for want of memory nothing changes
 pub record HasAborted (old : Shared) (owner ref : Name) (version : ℕ) (new : Shared) (found : Given) : Type 0 where
   pub row : (x : Unit) (tree : Attempt) → unit_at old.board owner ≡ Some x → named owner old.attempts ≡ Some tree → Aborts old owner x tree ref version found new
-  pub claims : (tree : Attempt) → named owner old.attempts ≡ Some tree → ClaimsEnd (piece_or_task old.board owner tree) old new
-
--- it is undone, for whatever ref and version
-abbrev pub HasUndone : Shared → Name → Shared → Type 0
-HasUndone old owner new = (ref : Name) (version : ℕ) → HasAborted old owner ref version new (given.Aborted owner ref version)
+  pub claims : FoundEnd found old new
 
 abbrev pub AbortsOr : Shared → Name → Name → ℕ → Shared → Result Given AllocError → Type 0
 AbortsOr old owner ref version new (Ok found) = HasAborted old owner ref version new found

@@ -1,7 +1,7 @@
 -- Tasks that wait for the turn that their unit is.
-use Rattle.std.specs.Prelude.{◌≡◌, Err, Ok, Result}
+use Rattle.std.specs.Prelude.{◌≡◌, ℕ, Err, Ok, Result}
 use Rattle.std.specs.declared.alloc.AllocError.{AllocError}
-use Rattle.attempt_steps.specs.Tasks.{TaskMarked}
+use Rattle.attempt_steps.specs.Tasks.{HasPosted, TaskMarked}
 use Rattle.shared_world.specs.declared.given.Given.{Given}
 use Rattle.shared_world.specs.declared.given.Given.TheVariants as given
 use Rattle.shared_world.specs.Shared.{Shared}
@@ -18,3 +18,13 @@ pub record HasWaited (old : Shared) (owner task : Name) (new : Shared) (found : 
 abbrev pub TurnWaitsOr : Shared → Name → Name → Shared → Result Given AllocError → Type 0
 TurnWaitsOr old owner task new (Ok found) = HasWaited old owner task new found
 TurnWaitsOr old owner task new (Err e) = IsSameBut old new
+
+-- what the root has sent is put or kept, and the task waits so; or for want of memory nothing changes
+pub record HasWaitedAtEnd (old : Shared) (owner task : Name) (before : ℕ) (new : Shared) (found : Given) : Type 0 where
+  pub posted : Shared
+  pub is_posted : HasPosted old owner before posted
+  pub waited : HasWaited posted owner task new found
+
+abbrev pub EndWaitsOr : Shared → Name → Name → ℕ → Shared → Result Given AllocError → Type 0
+EndWaitsOr old owner task before new (Ok found) = HasWaitedAtEnd old owner task before new found
+EndWaitsOr old owner task before new (Err e) = IsSameBut old new

@@ -1,14 +1,16 @@
 // What comes of an attempt whose root is at its end.
 ghost use Rattle.std.specs.Prelude.{◌≡◌, All, IfErr, IfOk, IfSome, None, OnOk, Some};
-ghost use Rattle.attempt_steps.specs.Deciding.{CommitsOr, DecidedOr, IsTrying, IsValidated, SettledOr};
+ghost use Rattle.attempt_commits.specs.Committing.{IsTrying};
+ghost use Rattle.attempt_steps.specs.Deciding.{DecidedOr, IsValidated, SettledOr};
 ghost use Rattle.world_steps.specs.Kept.{shared_of};
+ghost use Rattle.shared_world.specs.Marks.{AreMarkedBeside};
 ghost use Rattle.shared_world.specs.Stands.{Stands};
 ghost use Rattle.task_fork_join.specs.Attempt.{Attempt, end_at};
 ghost use Rattle.txn_commit.specs.Conflict.{IsUnchanged};
 ghost use Rattle.value_core.specs.Named.{named};
 
-use crate::commits::commit;
 use crate::undoing::abort;
+use attempt_commits::commit;
 use ref_store::Store;
 use shared_world::Given;
 use std::alloc::{AllocError, Global};
@@ -29,6 +31,7 @@ pub(crate) struct Changed {
 /// written since, and else it commits or ends the run.
 pub(crate) fn decide(kept: &mut Kept, alloc: Global, owner: &Name) -> Result<Given, AllocError>
     requires stands { Stands (shared_of kept.old) }
+    requires marks { AreMarkedBeside (shared_of kept.old) owner.now }
     requires going { kept.old.end ≡ None }
     requires attempt { IsTrying (shared_of kept.old) owner.now }
     ensures { DecidedOr (shared_of kept.old) owner.now (shared_of kept.new) result }

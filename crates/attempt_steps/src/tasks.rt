@@ -1,12 +1,14 @@
 // How the tasks of attempts take steps.
-ghost use Rattle.std.specs.Prelude.{◌≡◌, IfOk, IfSome, None, OnErr, OnOk, Some, false, is_some};
+ghost use Rattle.std.specs.Prelude.{◌≡◌, IfOk, IfSome, None, OnErr, OnOk, Some, false, is_some, length};
 ghost use Rattle.std.specs.Option.{option_copied, option_map, IsSome};
 ghost use Rattle.world_steps.specs.Kept.{shared_of, IsSameBut};
-ghost use Rattle.attempt_steps.specs.Tasks.{ComesAfter, DecidedOrWaits, DecidesOr, HasForkedTask, HasRoomFor, HasStepped, IsNext, IsNextIfForked, IsOfStep, IsRoomyChild, IsTaskAt, IsTaskIn, IsTaskOf, IsOwned, MissesOr, TaskCame, TaskMarked, TaskWaits, UndoesOr};
+ghost use Rattle.attempt_steps.specs.Tasks.{ComesAfter, DecidedOrWaits, DecidesOr, GoesOnOr, HasDoneNoMore, HasForkedTask, HasPosted, HasRoomFor, HasStepped, IsNext, IsNextIfForked, IsOfStep, IsRoomyChild, IsTaskAt, IsTaskIn, IsTaskOf, IsOwned, MayUndo, MissesOr, TaskCame, TaskMarked, TaskWaits};
 ghost use Rattle.ref_store.specs.declared.version.Version.{Version as Versioned};
 ghost use Rattle.ref_store.specs.Store.{versions_of};
 ghost use Rattle.ref_store.specs.Version.{newest};
+ghost use Rattle.shared_world.specs.Marks.{AreMarked, AreMarkedBeside};
 ghost use Rattle.shared_world.specs.rows.Tasks.{outer_of};
+ghost use Rattle.shared_world.specs.Seen.{done_by_root};
 ghost use Rattle.shared_world.specs.Shared.{kept_machine};
 ghost use Rattle.shared_world.specs.Stands.{Stands};
 ghost use Rattle.task_fork_join.specs.Attempt.{IsKept, end_at, next_made_at};
@@ -18,7 +20,8 @@ ghost use Rattle.value_core.specs.Named.{named};
 
 use crate::deciding::decide;
 use crate::undoing::abort;
-use crate::waiting::{check_trying, runs_ahead, wait_for_turn};
+use crate::waiting::{check_trying, runs_ahead, wait_at_end, wait_for_turn};
+use attempt_sends::post_sends;
 use eval_step::Machine;
 use ref_store::Store;
 use serial_model::{Halt, Request};
@@ -49,16 +52,18 @@ pub fn step_task(
     halt: Halt,
 ) -> Result<Given, AllocError>
     requires stands { Stands (shared_of kept.old) }
+    requires marks { AreMarked (shared_of kept.old) }
     requires going { kept.old.end ≡ None }
     requires task { IsTaskOf (shared_of kept.old) owner.now task.now moved halt }
     ensures { TaskCame (shared_of kept.old) task.now (shared_of kept.new) result }
 {
+    let before = count_done(kept, owner);
     if has_ended(kept, owner) {
         drop_moved(moved, halt);
-        return decide_or_wait(kept, alloc, owner, task);
+        return decide_or_wait(kept, alloc, owner, task, before);
     }
     match room_for_child(kept, alloc, owner, task, &halt) {
-        Ok(child) => step_with(kept, alloc, owner, task, moved, halt, child),
+        Ok(child) => step_with(kept, alloc, owner, task, moved, halt, child, before),
         Err(error) => {
             drop_moved(moved, halt);
             Err(error)
@@ -74,14 +79,16 @@ pub fn settle_task(
     task: &Name,
 ) -> Result<Given, AllocError>
     requires stands { Stands (shared_of kept.old) }
+    requires marks { AreMarked (shared_of kept.old) }
     requires going { kept.old.end ≡ None }
     requires none { kept_machine (shared_of kept.old) task.now ≡ None }
     requires owned { IsOwned (shared_of kept.old) task.now owner.now }
     ensures { TaskCame (shared_of kept.old) task.now (shared_of kept.new) result }
 {
     let _next = next_of_task(kept, alloc, owner, task)?;
+    let before = count_done(kept, owner);
     if has_ended(kept, owner) {
-        decide_or_wait(kept, alloc, owner, task)
+        decide_or_wait(kept, alloc, owner, task, before)
     } else {
         Err(AllocError)
     }
@@ -96,17 +103,20 @@ fn step_with(
     moved: Machine,
     halt: Halt,
     child: Option<Child>,
+    before: usize,
 ) -> Result<Given, AllocError>
     requires stands { Stands (shared_of kept.old) }
+    requires marks { AreMarked (shared_of kept.old) }
     requires going { kept.old.end ≡ None }
     requires task { IsTaskOf (shared_of kept.old) owner.now task.now moved halt }
     requires open { IfSome (named owner.now kept.old.attempts.entries) (λ tree. end_at tree ≡ None) }
     requires room { HasRoomFor kept.old owner.now child }
     requires next { IfSome (named owner.now kept.old.attempts.entries) (λ tree. IsNextIfForked halt tree task.now child) }
+    requires done { IfSome (named owner.now kept.old.attempts.entries) (λ tree. IsSome (named tree.root tree.tasks) → before ≡ length (done_by_root tree)) }
     ensures { TaskCame (shared_of kept.old) task.now (shared_of kept.new) result }
 {
     match take_step(kept, alloc, owner, task, moved, halt) {
-        Ok(went) => after_step(kept, alloc, owner, task, child, went),
+        Ok(went) => after_step(kept, alloc, owner, task, child, went, before),
         Err(error) => {
             drop_child(child);
             Err(error)
@@ -198,25 +208,25 @@ fn after_step(
     task: &Name,
     child: Option<Child>,
     went: Stepped,
+    before: usize,
 ) -> Result<Given, AllocError>
     requires stands { Stands (shared_of kept.old) }
+    requires marks { MayUndo (shared_of kept.old) owner.now went → AreMarkedBeside (shared_of kept.old) owner.now }
     requires going { kept.old.end ≡ None }
     requires at { IfSome (named owner.now kept.old.attempts.entries) (IsTaskIn (shared_of kept.old) owner.now task.now) }
     requires there { IsSome (named owner.now kept.old.attempts.entries) }
     requires room { HasRoomFor kept.old owner.now child }
     requires child { IsOfStep child went }
-    ensures { ComesAfter (shared_of kept.old) owner.now task.now went (shared_of kept.new) result }
+    requires done { IfSome (named owner.now kept.old.attempts.entries) (HasDoneNoMore before went) }
+    ensures { ComesAfter (shared_of kept.old) owner.now task.now before went (shared_of kept.new) result }
 {
     if has_ended(kept, owner) {
-        return decide_or_wait(kept, alloc, owner, task);
+        return decide_or_wait(kept, alloc, owner, task, before);
     }
     match went {
-        Stepped::Now => {
-            mark_task(kept, task, Mark::Ready(Work::Eval));
-            Ok(Given::Local)
-        }
+        Stepped::Now => go_on(kept, alloc, owner, task, before),
         Stepped::Forked(_) => Ok(add_forked(kept, alloc, task, child)),
-        Stepped::WaitJoin(future) => wait_for_task(kept, alloc, task, future),
+        Stepped::WaitJoin(future) => wait_for_task(kept, alloc, owner, task, future, before),
         Stepped::NotInSnapshot(name) => miss(kept, alloc, owner, task, name),
         Stepped::Finished => {
             mark_task(kept, task, Mark::Finished(Value::Nil));
@@ -236,37 +246,57 @@ fn has_ended(kept: &Kept, owner: &Name) -> bool
     }
 }
 
-/// What comes of the attempt, whose root is at its end. For want of memory the task is ready to settle.
+/// How much the root of the unit's attempt has done.
+fn count_done(kept: &Kept, owner: &Name) -> usize
+    requires there { IsSome (named owner.now kept.now.attempts.entries) }
+    ensures { IfSome (named owner.now kept.now.attempts.entries) (λ tree. IsSome (named tree.root tree.tasks) → result ≡ length (done_by_root tree)) }
+{
+    match find(&kept.attempts, owner) {
+        Some(tree) => tree.root().effects().len(),
+        None => unreachable!(),
+    }
+}
+
+/// What comes of the attempt, whose root is at its end and had done so much before. For want of memory the task is ready to settle.
 fn decide_or_wait(
     kept: &mut Kept,
     alloc: Global,
     owner: &Name,
     task: &Name,
+    before: usize,
 ) -> Result<Given, AllocError>
     requires stands { Stands (shared_of kept.old) }
+    requires marks { AreMarkedBeside (shared_of kept.old) owner.now }
     requires going { kept.old.end ≡ None }
     requires at { IfSome (named owner.now kept.old.attempts.entries) (IsTaskIn (shared_of kept.old) owner.now task.now) }
     requires there { IsSome (named owner.now kept.old.attempts.entries) }
-    ensures { DecidedOrWaits (shared_of kept.old) owner.now task.now (shared_of kept.new) result }
+    ensures { DecidedOrWaits (shared_of kept.old) owner.now task.now before (shared_of kept.new) result }
 {
-    let decided = decide_at(kept, alloc, owner, task);
+    let decided = decide_at(kept, alloc, owner, task, before);
     if decided.is_err() {
         mark_task(kept, task, Mark::Ready(Work::Settle));
     }
     decided
 }
 
-/// What comes of the attempt, whose root is at its end: it is decided on where its unit stands where the history left it; else the
-/// task waits until that does.
-fn decide_at(kept: &mut Kept, alloc: Global, owner: &Name, task: &Name) -> Result<Given, AllocError>
+/// What comes of the attempt, whose root is at its end: it is decided on where its unit stands where the history left it; else what the root
+/// has sent is put or kept, and the task waits until that does.
+fn decide_at(
+    kept: &mut Kept,
+    alloc: Global,
+    owner: &Name,
+    task: &Name,
+    before: usize,
+) -> Result<Given, AllocError>
     requires stands { Stands (shared_of kept.old) }
+    requires marks { AreMarkedBeside (shared_of kept.old) owner.now }
     requires going { kept.old.end ≡ None }
     requires at { IfSome (named owner.now kept.old.attempts.entries) (IsTaskIn (shared_of kept.old) owner.now task.now) }
     requires there { IsSome (named owner.now kept.old.attempts.entries) }
-    ensures { DecidesOr (shared_of kept.old) owner.now task.now (shared_of kept.new) result }
+    ensures { DecidesOr (shared_of kept.old) owner.now task.now before (shared_of kept.new) result }
 {
     if runs_ahead(kept, owner) {
-        return wait_for_turn(kept, alloc, owner, task);
+        return wait_at_end(kept, alloc, owner, task, before);
     }
     check_trying(kept, owner)?;
     decide(kept, alloc, owner)
@@ -308,18 +338,39 @@ fn add_child_task(kept: &mut Kept, alloc: Global, task: &Name, child: Child) -> 
     Given::Local
 }
 
-/// The task waits for the finish of that one. Where nothing stands under that name, of which no run knows, it is taken for
-/// want of memory. Then the task can be evaluated again.
+/// What the root has sent by the step is put or kept, and the task can be evaluated again, as it can for want of memory.
+fn go_on(
+    kept: &mut Kept,
+    alloc: Global,
+    owner: &Name,
+    task: &Name,
+    before: usize,
+) -> Result<Given, AllocError>
+    requires at { IfSome (named owner.now kept.old.attempts.entries) (IsTaskIn (shared_of kept.old) owner.now task.now) }
+    requires there { IsSome (named owner.now kept.old.attempts.entries) }
+    ensures { GoesOnOr (shared_of kept.old) owner.now task.now before (shared_of kept.new) result }
+{
+    let posted = post_sends(kept, alloc, owner, before);
+    mark_task(kept, task, Mark::Ready(Work::Eval));
+    posted?;
+    Ok(Given::Local)
+}
+
+/// What the root has sent by the step is put or kept, and the task waits for the finish of that one. Where nothing stands under that name, of
+/// which no run knows, it is taken for want of memory. Then the task can be evaluated again.
 fn wait_for_task(
     kept: &mut Kept,
     alloc: Global,
+    owner: &Name,
     task: &Name,
     future: Name,
+    before: usize,
 ) -> Result<Given, AllocError>
-    requires there { IsTaskAt kept.old.units task.now }
-    ensures { TaskWaits (shared_of kept.old) task.now future (shared_of kept.new) result }
+    requires at { IfSome (named owner.now kept.old.attempts.entries) (IsTaskIn (shared_of kept.old) owner.now task.now) }
+    requires there { IsSome (named owner.now kept.old.attempts.entries) }
+    ensures { TaskWaits (shared_of kept.old) owner.now task.now future before (shared_of kept.new) result }
 {
-    match name_with_place(kept, alloc, &future) {
+    match told_and_sent(kept, alloc, owner, &future, before) {
         Ok(told) => {
             mark_task(kept, task, Mark::Waiting(WaitOn::Finish(future)));
             Ok(Given::Waiting(WaitOn::Finish(told)))
@@ -329,6 +380,25 @@ fn wait_for_task(
             Err(error)
         }
     }
+}
+
+/// The same name, under which something stands; and what the root has sent by the step is put or kept. For want of memory nothing changes but
+/// room.
+fn told_and_sent(
+    kept: &mut Kept,
+    alloc: Global,
+    owner: &Name,
+    name: &Name,
+    before: usize,
+) -> Result<Name, AllocError>
+    ensures told { IfOk result (λ told. told ≡ name.now) }
+    ensures place { OnOk result (HasPlace kept.new.units name.now) }
+    ensures posted { OnOk result (HasPosted (shared_of kept.old) owner.now before (shared_of kept.new)) }
+    ensures same { OnErr result (shared_of kept.new ≡ shared_of kept.old) }
+{
+    let told = name_with_place(kept, alloc, name)?;
+    post_sends(kept, alloc, owner, before)?;
+    Ok(told)
 }
 
 /// The same name, under which something stands.
@@ -351,33 +421,17 @@ fn miss(
     name: Name,
 ) -> Result<Given, AllocError>
     requires stands { Stands (shared_of kept.old) }
+    requires marks { AreMarkedBeside (shared_of kept.old) owner.now }
     requires going { kept.old.end ≡ None }
     requires at { IfSome (named owner.now kept.old.attempts.entries) (IsTaskIn (shared_of kept.old) owner.now task.now) }
     requires there { IsSome (named owner.now kept.old.attempts.entries) }
     ensures { MissesOr (shared_of kept.old) owner.now task.now name (shared_of kept.new) result }
 {
     match newest_number(kept, &name) {
-        Some(number) => undo_for(kept, alloc, owner, name, number),
+        Some(number) => abort(kept, alloc, owner, name, number),
         None if runs_ahead(kept, owner) => wait_for_turn(kept, alloc, owner, task),
         None => Err(AllocError),
     }
-}
-
-/// The attempt is undone for that version of the ref.
-fn undo_for(
-    kept: &mut Kept,
-    alloc: Global,
-    owner: &Name,
-    name: Name,
-    number: u64,
-) -> Result<Given, AllocError>
-    requires stands { Stands (shared_of kept.old) }
-    requires going { kept.old.end ≡ None }
-    requires there { IsSome (named owner.now kept.old.attempts.entries) }
-    ensures { UndoesOr (shared_of kept.old) owner.now name number (shared_of kept.new) result }
-{
-    check_trying(kept, owner)?;
-    abort(kept, alloc, owner, name, number)
 }
 
 /// The number of the newest version of the ref. None exactly where it has none.

@@ -1,14 +1,16 @@
 // Attempts whose unit runs ahead of the history, and those that can be decided on.
-ghost use Rattle.std.specs.Prelude.{◌≡◌, OnOk, false, is_some};
+ghost use Rattle.std.specs.Prelude.{◌≡◌, IfSome, OnOk, false, is_some};
 ghost use Rattle.std.specs.Option.{IsSome};
-ghost use Rattle.attempt_steps.specs.Deciding.{IsTrying, IsWaitingUnit};
-ghost use Rattle.attempt_steps.specs.Tasks.{IsTaskAt};
-ghost use Rattle.attempt_steps.specs.Waiting.{TurnWaitsOr};
+ghost use Rattle.attempt_commits.specs.Committing.{IsTrying};
+ghost use Rattle.attempt_steps.specs.Deciding.{IsWaitingUnit};
+ghost use Rattle.attempt_steps.specs.Tasks.{IsTaskAt, IsTaskIn};
+ghost use Rattle.attempt_steps.specs.Waiting.{EndWaitsOr, TurnWaitsOr};
 ghost use Rattle.unit_table.specs.Piece.{says_ready};
 ghost use Rattle.value_core.specs.Named.{named};
 ghost use Rattle.world_steps.specs.Kept.{shared_of};
 
 use crate::tasks::mark_task;
+use attempt_sends::post_sends;
 use shared_world::Given;
 use std::alloc::{AllocError, Global};
 use unit_table::{Mark, WaitOn};
@@ -35,6 +37,26 @@ pub(crate) fn wait_for_turn(
 {
     let turn = owner.copy(alloc)?;
     let told = owner.copy(alloc)?;
+    mark_task(kept, task, Mark::Waiting(WaitOn::Definite(turn)));
+    Ok(Given::Waiting(WaitOn::Definite(told)))
+}
+
+/// What the root of the unit's attempt has sent since it had done so much is put or kept, and the task waits so. For want of memory nothing
+/// changes but room.
+pub(crate) fn wait_at_end(
+    kept: &mut Kept,
+    alloc: Global,
+    owner: &Name,
+    task: &Name,
+    before: usize,
+) -> Result<Given, AllocError>
+    requires at { IfSome (named owner.now kept.old.attempts.entries) (IsTaskIn (shared_of kept.old) owner.now task.now) }
+    requires there { IsSome (named owner.now kept.old.attempts.entries) }
+    ensures { EndWaitsOr (shared_of kept.old) owner.now task.now before (shared_of kept.new) result }
+{
+    let turn = owner.copy(alloc)?;
+    let told = owner.copy(alloc)?;
+    post_sends(kept, alloc, owner, before)?;
     mark_task(kept, task, Mark::Waiting(WaitOn::Definite(turn)));
     Ok(Given::Waiting(WaitOn::Definite(told)))
 }

@@ -1,9 +1,5 @@
-//! Tests of the crates at the edge of the program: its files and sinks, its words, and the text of traces.
+//! Tests of the files, sinks and standard output that the program reads and writes.
 #![tactic(auto)]
 
 #[cfg(test)]
 mod files;
-#[cfg(test)]
-mod traces;
-#[cfg(test)]
-mod words;

@@ -95,6 +95,25 @@ impl Machine {
         })
     }
 
+    /// A machine that is to evaluate the same in the same frame, and has no answers yet. It fails for want of memory, and
+    /// where the program has no such body.
+    pub fn again(&self, alloc: Global, program: &Program) -> Result<Self, AllocError>
+        ensures same { IfOk result (IsSameTask self.now) }
+        ensures answers { IfOk result (λ machine. machine.answers ≡ []) }
+        ensures stands { IfOk result (IsOf program.now) }
+    {
+        if program.main().index < self.body.index {
+            return Err(AllocError);
+        }
+        Machine::start(
+            alloc,
+            self.body,
+            self.values.copy()?,
+            self.inside,
+            self.fuel,
+        )
+    }
+
     /// Goes on to where the body stops after the answers so far, and says where that is. A machine that asks and is run
     /// again gives the same request again. For want of memory it has failed, and every later call finds no memory.
     pub fn run_to_ask(&mut self, alloc: Global, program: &Program) -> Result<Halt, AllocError>

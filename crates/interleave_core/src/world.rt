@@ -117,10 +117,11 @@ impl World {
         abandon(&mut self.kept, ticket);
     }
 
-    /// Ends the run by one thread: every claim and every attempt ends, and then one entry after the other is settled, each in turn,
-    /// until the run is over; it answers the end. The unit goes that is first in after-order among those that are not finished, and a
-    /// turn begins only where each unit is finished. Then no attempt is left, and no claim is out. For want of memory the history has
-    /// grown by whole entries, each in turn.
+    /// Ends the run by one thread: every claim and every attempt ends, what ran ahead of the history goes back to where that left it, and
+    /// then one entry after the other is settled, each in turn, until the run is over; it answers the end. The unit goes that is first in
+    /// after-order among those that are not finished, and a turn begins only where each unit is finished. Then no attempt is left, no
+    /// claim is out, nothing is held, and no turn is begun that the history does not know. For want of memory the history has grown by
+    /// whole entries, each in turn.
     pub fn finish(&mut self, alloc: Global) -> Result<End, AllocError>
         ensures finished { IfOk result (IsFinished self.new) }
         ensures later { IsLater self.old self.new }

@@ -1,4 +1,5 @@
 pub mod Given
+pub mod Leads
 pub mod Lending
 pub mod Returning
 pub mod Stale

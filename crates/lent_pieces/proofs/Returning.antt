@@ -8,6 +8,8 @@ use Rattle.lent_pieces.proofs.Stale.{not-stale}
 use Rattle.lent_pieces.specs.Claims.{IsAbandoned}
 use Rattle.lent_pieces.specs.Giving.{HasHalted, IsOpenUnit, PieceGave}
 use Rattle.lent_pieces.specs.Giving as piece_gave
+use Rattle.lent_pieces.specs.Leading.{LiveGave}
+use Rattle.lent_pieces.specs.Leading as live_gave
 use Rattle.attempt_steps.specs.Tasks.{IsReadyTask, IsWanting}
 use Rattle.serial_model.specs.declared.halt.Halt.{Halt}
 use Rattle.shared_world.proofs.Kept.{unclaimed-keeps}
@@ -28,7 +30,6 @@ use Rattle.unit_table.specs.declared.mark.Mark.TheVariants as mark
 use Rattle.unit_table.specs.declared.mark.Work.{Work}
 use Rattle.unit_table.specs.declared.mark.Work.TheVariants as work
 use Rattle.unit_table.specs.declared.piece.Piece.{Piece}
-use Rattle.unit_table.specs.declared.piece.Piece.TheVariants as piece
 use Rattle.unit_table.specs.Piece.{mark_in, says_ready}
 use Rattle.value_core.specs.declared.ticket.Ticket.{Ticket}
 use Rattle.value_core.specs.Named.{Name}
@@ -145,13 +146,18 @@ back-plain old new r st left = record {
 }
 
 -- what the piece came to
-pub live-gave : (old new : Shared) (r : Returned) (name : Name) (found : Given) → IsLive old r name → PieceGave old name found new → HasGiven old r new found
-live-gave old new r name found live gives = record { gave = on gives; stale = λ is. absurd (not-stale old new name found gives is) }
+pub live-gave : (old new : Shared) (r : Returned) (name : Name) (found : Given) → IsLive old r name → LiveGave old name r.work found new → HasGiven old r new found
+live-gave old new r name found is gives = record { gave = of gives; stale = λ stale. absurd (not-stale old new name r.work found gives stale) }
   where
     on : PieceGave old name found new → Gave old r found new
-    on (piece_gave.unit g) = gave.unit name live g
-    on (piece_gave.task g) = gave.task name live g
-    on (piece_gave.actor g) = gave.actor name live g
+    on (piece_gave.unit g) = gave.unit name is g
+    on (piece_gave.task g) = gave.task name is g
+    on (piece_gave.actor g) = gave.actor name is g
+
+    of : LiveGave old name r.work found new → Gave old r found new
+    of (live_gave.piece g) = on g
+    of (live_gave.lead g) = gave.lead name is g
+    of (live_gave.tentative g) = gave.tentative name is g
 
 -- a unit that is claimed is not finished
 pub live-unfinished : (old : Shared) (r : Returned) (name : Name) → IsLive old r name → IsOpenUnit old.board name

@@ -1,21 +1,27 @@
--- No row of a unit, of a task or of an actor answers Stale.
+-- No row of a unit, of a task, of an actor or of a turn that runs ahead answers Stale.
 use Rattle.std.proofs.Common.{◌≡◌, ◌∙◌, Bool, true, false, sym, ap}
-use Rattle.std.specs.Prelude.{List, None, Option, Some, ◌==◌}
+use Rattle.std.specs.Prelude.{◌∷◌, ◌&&◌, ◌==◌, [], List, None, Option, Some}
 use Rattle.actor_mailbox.specs.declared.message.Message.{Message}
 use Rattle.core_syntax.specs.declared.behaviour.Behaviour.{Behaviour}
+use Rattle.core_syntax.specs.declared.node_id.NodeId.{NodeId}
 use Rattle.eval_step.specs.Evaluation.{Evaluation}
 use Rattle.lent_pieces.specs.Giving as gives
 use Rattle.lent_pieces.specs.Giving.{PieceGave}
+use Rattle.lent_pieces.specs.Leading as live
+use Rattle.lent_pieces.specs.Leading.{LiveGave}
 use Rattle.ref_store.specs.declared.version.Version.{Version}
 use Rattle.ref_store.specs.Store.{versions_of}
 use Rattle.ref_store.specs.Version.{newest}
 use Rattle.serial_model.specs.declared.actor_state.ActorState.{ActorState}
 use Rattle.serial_model.specs.declared.halt.Halt.{Halt}
 use Rattle.serial_model.specs.declared.halt.Halt.TheVariants as halt
+use Rattle.serial_model.specs.declared.request.Request.{Request}
 use Rattle.serial_model.specs.declared.request.Request.TheVariants as request
 use Rattle.serial_model.specs.Step.{next_of}
+use Rattle.shared_world.specs.Ahead.{Ahead}
 use Rattle.shared_world.specs.declared.given.Given.{Given}
 use Rattle.shared_world.specs.declared.given.Given.TheVariants as given
+use Rattle.shared_world.specs.rows.Leading.{FirstSettles, ForkSettles, LeadGives, LeadGoes, LeadHolds, LeadTries, NextSettles, TakeSettlesIfAllowed, is_definite, is_to_settle}
 use Rattle.shared_world.specs.rows.Tasks as row
 use Rattle.shared_world.specs.rows.Tasks.{AfterStep, EndGives, Missing, RootGives, StepGives, TaskGives}
 use Rattle.shared_world.specs.rows.Turns.{TakesIfAllowed}
@@ -26,9 +32,12 @@ use Rattle.task_fork_join.specs.declared.stepped.Stepped.{Stepped}
 use Rattle.task_fork_join.specs.declared.stepped.Stepped.TheVariants as stepped_as
 use Rattle.task_fork_join.specs.declared.task_end.TaskEnd.{TaskEnd}
 use Rattle.task_fork_join.specs.declared.task_end.TaskEnd.TheVariants as end
+use Rattle.unit_table.specs.declared.mark.Work.{Work}
+use Rattle.unit_table.specs.declared.piece.Actor.{Actor}
 use Rattle.unit_table.specs.declared.unit.Unit.{Unit}
 use Rattle.value_core.specs.declared.value.Value.{Value}
 use Rattle.value_core.specs.Named.{Name, named}
+use Rattle.value_core.specs.Place.{Spot}
 
 abbrev is_stale : Given → Bool
 is_stale (given.Settled e) = false
@@ -111,7 +120,7 @@ after base u x task tree went None found new r = steps base u x task tree went f
 after base u x task tree went (Some e) found new r = root base u x task tree e found new r
 
 task-row : (old : Shared) (u : Name) (x : Unit) (task : Name) (tree : Attempt) (ended : Option TaskEnd) (machine : Option Evaluation) (found : Given) (new : Shared) → TaskGives old u x task tree ended machine found new → is_stale found ≡ false
-task-row old u x task tree None (Some machine) found new r = after _ u x task r.after r.went (end_at r.after) found new r.comes
+task-row old u x task tree None (Some machine) found new r = after _ u x task r.by.after r.by.went (end_at r.by.after) found new r.comes
 task-row old u x task tree None None found new r = absurd r
 task-row old u x task tree (Some ended) machine found new r = root old u x task tree ended found new r
 
@@ -120,11 +129,82 @@ takes : (old : Shared) (a : Name) (actor : ActorState) (m : Message) (rest : Lis
 takes old a actor m rest behaviour true found new r = ap is_stale r.found_is
 takes old a actor m rest behaviour false found new r = ap is_stale r.found_is
 
+-- what a turn comes to that runs ahead: one more is held
+holds : (old : Shared) (u : Name) (x : Unit) (h : Ahead) (r : Request) (found : Given) (new : Shared) → LeadHolds old u x h r found new → is_stale found ≡ false
+holds old u x h (request.Send to args) found new r = ap is_stale r.holds.found_is
+holds old u x h (request.Print text) found new r = ap is_stale r.found_is
+holds old u x h (request.NewRef v) found new r = ap is_stale r.found_is
+holds old u x h (request.Deref ref) found new r = ap is_stale r.found_is
+holds old u x h (request.RefSet ref v) found new r = ap is_stale r.found_is
+holds old u x h (request.Fork body values) found new r = ap is_stale r.found_is
+holds old u x h (request.Join future) found new r = ap is_stale r.found_is
+holds old u x h (request.Dosync body values) found new r = ap is_stale r.found_is
+holds old u x h (request.Spawn behaviour state) found new r = ap is_stale r.found_is
+holds old u x h (request.Become behaviour state) found new r = ap is_stale r.found_is
+holds old u x h request.SelfActor found new r = ap is_stale r.found_is
+
+-- or an attempt begins
+lead-tries : (old : Shared) (u : Name) (x : Unit) (h : Ahead) (body : NodeId) (values : List Value) (at : Spot) (tree : Option Attempt) (found : Given) (new : Shared) → LeadTries old u x h body values at tree found new → is_stale found ≡ false
+lead-tries old u x h body values at None found new r = ap is_stale r.found_is
+lead-tries old u x h body values at (Some tree) found new r = absurd r
+
+goes : (old : Shared) (u : Name) (x : Unit) (h : Ahead) (halts : Halt) (found : Given) (new : Shared) → LeadGoes old u x h halts found new → is_stale found ≡ false
+goes old u x h (halt.Ask (request.Dosync body values) at) found new r = lead-tries old u x h body values at (named u old.attempts) found new r
+goes old u x h (halt.Ask (request.Deref ref) at) found new r = ap is_stale r.found_is
+goes old u x h (halt.Ask (request.RefSet ref v) at) found new r = ap is_stale r.found_is
+goes old u x h (halt.Ask (request.Join future) at) found new r = ap is_stale r.found_is
+goes old u x h (halt.Ask (request.Send to args) at) found new r = holds old u x h (request.Send to args) found new r
+goes old u x h (halt.Ask (request.Print text) at) found new r = holds old u x h (request.Print text) found new r
+goes old u x h (halt.Ask (request.NewRef v) at) found new r = holds old u x h (request.NewRef v) found new r
+goes old u x h (halt.Ask (request.Fork body values) at) found new r = holds old u x h (request.Fork body values) found new r
+goes old u x h (halt.Ask (request.Spawn behaviour state) at) found new r = holds old u x h (request.Spawn behaviour state) found new r
+goes old u x h (halt.Ask (request.Become behaviour state) at) found new r = holds old u x h (request.Become behaviour state) found new r
+goes old u x h (halt.Ask request.SelfActor at) found new r = holds old u x h request.SelfActor found new r
+goes old u x h (halt.Value v) found new r = ap is_stale r.found_is
+goes old u x h (halt.Fault code at) found new r = ap is_stale r.found_is
+goes old u x h halt.Spent found new r = ap is_stale r.found_is
+
+-- or the next that it holds is settled
+lead-forks : (old : Shared) (u : Name) (x : Unit) (h : Ahead) (body : NodeId) (values : List Value) (rest : List Request) (full : Bool) (found : Given) (new : Shared) → ForkSettles old u x h body values rest full found new → is_stale found ≡ false
+lead-forks old u x h body values rest true found new r = ap is_stale r.found_is
+lead-forks old u x h body values rest false found new r = ap is_stale r.2.found_is
+
+first : (old : Shared) (u : Name) (x : Unit) (h : Ahead) (r : Request) (rest : List Request) (found : Given) (new : Shared) → FirstSettles old u x h r rest found new → is_stale found ≡ false
+first old u x h (request.Print text) rest found new r = ap is_stale r.found_is
+first old u x h (request.NewRef v) rest found new r = ap is_stale r.found_is
+first old u x h (request.Spawn behaviour state) rest found new r = ap is_stale r.2.found_is
+first old u x h (request.Fork body values) rest found new r = lead-forks old u x h body values rest (old.made == old.setup.limits.units) found new r
+first old u x h (request.Send to args) rest found new r = ap is_stale r.2.found_is
+first old u x h (request.Become behaviour state) rest found new r = ap is_stale r.found_is
+first old u x h request.SelfActor rest found new r = ap is_stale r.found_is
+first old u x h (request.Deref ref) rest found new r = absurd r
+first old u x h (request.RefSet ref v) rest found new r = absurd r
+first old u x h (request.Join future) rest found new r = absurd r
+first old u x h (request.Dosync body values) rest found new r = absurd r
+
+begin : (old : Shared) (u : Name) (x : Unit) (h : Ahead) (a : Name) (actor : Actor) (m : Message) (full : Bool) (found : Given) (new : Shared) → TakeSettlesIfAllowed old u x h a actor m full found new → is_stale found ≡ false
+begin old u x h a actor m true found new r = ap is_stale r.found_is
+begin old u x h a actor m false found new r = ap is_stale r.settles.found_is
+
+next : (old : Shared) (u : Name) (x : Unit) (h : Ahead) (takes_of : Option Name) (held : List Request) (found : Given) (new : Shared) → NextSettles old u x h takes_of held found new → is_stale found ≡ false
+next old u x h (Some a) held found new r = begin old u x h a r.0.actor r.0.message (old.made == old.setup.limits.units) found new r.1
+next old u x h None (r ∷ rest) found new is = first old u x h r rest found new is
+next old u x h None [] found new r = absurd r
+
+lead-row : (old : Shared) (u : Name) (x : Unit) (h : Ahead) (settles : Bool) (found : Given) (new : Shared) → LeadGives old u x h settles found new → is_stale found ≡ false
+lead-row old u x h true found new r = next old u x h h.takes h.held found new r
+lead-row old u x h false found new r = goes old u x h (next_of old.setup (unit_state x)) found new r
+
 -- what comes of a piece is not Stale
-pub not-stale : (old new : Shared) (name : Name) (found : Given) → PieceGave old name found new → found ≡ given.Stale → ⊥
-not-stale old new name found gave is = let no : true ≡ false = sym (ap is_stale is) ∙ told gave in cc
+pub not-stale : (old new : Shared) (name : Name) (w : Work) (found : Given) → LiveGave old name w found new → found ≡ given.Stale → ⊥
+not-stale old new name w found gave is = let no : true ≡ false = sym (ap is_stale is) ∙ of gave in cc
   where
     told : PieceGave old name found new → is_stale found ≡ false
     told (gives.unit g) = unit-row old name g.unit (next_of old.setup (unit_state g.unit)) found new g.gives
     told (gives.task g) = task-row old g.owner g.unit name g.tree (end_at g.tree) (machine_of g.tree name) found new g.gives
     told (gives.actor g) = takes old name g.actor.state g.first g.rest g.can.behaviour (old.made == old.setup.limits.units) found new g.gives
+
+    of : LiveGave old name w found new → is_stale found ≡ false
+    of (live.piece g) = told g
+    of (live.lead g) = lead-row old name g.unit g.ahead (is_definite old.taken g.ahead.takes && is_to_settle w) found new g.gives
+    of (live.tentative g) = ap is_stale g.takes.found_is

@@ -1,5 +1,5 @@
 -- Results that are given back.
-use Rattle.std.specs.Prelude.{◌≡◌, Err, IsSome, None, Ok, Option, Result, Some, false, ⊤}
+use Rattle.std.specs.Prelude.{◌≡◌, Err, IsSome, None, Ok, Option, Result, Some, ⊤}
 use Rattle.std.specs.declared.alloc.AllocError.{AllocError}
 use Rattle.core_syntax.specs.Table.{Table}
 use Rattle.eval_step.specs.Evaluation.{Evaluation, IsAsk, IsAsking, IsOf, IsSame}

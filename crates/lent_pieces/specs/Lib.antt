@@ -1,3 +1,4 @@
 pub mod Back
 pub mod Claims
 pub mod Giving
+pub mod Leading

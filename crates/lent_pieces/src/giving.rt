@@ -8,7 +8,8 @@ ghost use Rattle.lent_pieces.specs.Claims.{FindsLive, IsAbandoned};
 ghost use Rattle.lent_pieces.specs.Giving.{GivesTo, HasHalted, IsMovedOn, IsOpenUnit, IsStanderOf};
 ghost use Rattle.world_steps.specs.Kept.{shared_of};
 ghost use Rattle.attempt_steps.specs.Tasks.{IsOwned, IsTaskAt};
-ghost use Rattle.attempt_steps.specs.Undoing.{HasAttempt};
+ghost use Rattle.attempts_gone.specs.Dropping.{HasAttempt};
+ghost use Rattle.shared_world.specs.Marks.{AreMarked, HasMarks};
 ghost use Rattle.shared_world.specs.Returned.{IsLive, IsSameMachine};
 ghost use Rattle.shared_world.specs.Shared.{kept_machine};
 ghost use Rattle.shared_world.specs.Stands.{Stands};
@@ -18,6 +19,7 @@ ghost use Rattle.world_claim.specs.Lent.{IsMachineOf};
 ghost use Rattle.world_claim.specs.Run.{IsRunOf, returned_of};
 
 use crate::claims::{abandon, live_piece};
+use crate::leading::give_piece;
 use actor_turns::give_actor;
 use attempt_steps::{settle_task, step_task};
 use core_syntax::Program;
@@ -50,6 +52,7 @@ pub(crate) enum Stander {
 /// kept. For want of memory its claim is out no more, and its piece is ready again.
 pub fn give(kept: &mut Kept, alloc: Global, parts: Parts) -> Result<Given, AllocError>
     requires stands { Stands (shared_of kept.old) }
+    requires marks { HasMarks (shared_of kept.old) }
     requires run { IsRunOf (returned_of (arc_value kept.old.program) parts) }
     ensures { GivesBack (shared_of kept.old) (returned_of (arc_value kept.old.program) parts) (shared_of kept.new) result }
 {
@@ -70,6 +73,7 @@ fn give_found(
     parts: Parts,
 ) -> Result<Given, AllocError>
     requires stands { Stands (shared_of kept.old) }
+    requires marks { HasMarks (shared_of kept.old) }
     requires run { IsRunOf (returned_of (arc_value kept.old.program) parts) }
     requires found { FindsLive (shared_of kept.old) parts.ticket parts.work parts.machine found }
     ensures { GivesBack (shared_of kept.old) (returned_of (arc_value kept.old.program) parts) (shared_of kept.new) result }
@@ -95,18 +99,19 @@ fn leave(kept: &mut Kept, parts: Parts)
 /// What a result that is live under that name comes to.
 fn give_live(kept: &mut Kept, alloc: Global, name: &Name, parts: Parts) -> Result<Given, AllocError>
     requires stands { Stands (shared_of kept.old) }
+    requires marks { HasMarks (shared_of kept.old) }
     requires run { IsRunOf (returned_of (arc_value kept.old.program) parts) }
     requires live { IsLive (shared_of kept.old) (returned_of (arc_value kept.old.program) parts) name.now }
     ensures { GivesBack (shared_of kept.old) (returned_of (arc_value kept.old.program) parts) (shared_of kept.new) result }
 {
     let Parts {
         ticket,
+        work,
         machine,
         halt,
-        ..
     } = parts;
     kept.units.claims_are_tied();
-    match give_to(kept, alloc, name, machine, halt) {
+    match give_piece(kept, alloc, name, work, machine, halt) {
         Ok(found) => given(found),
         Err(error) => {
             abandon(kept, ticket);
@@ -117,7 +122,8 @@ fn give_live(kept: &mut Kept, alloc: Global, name: &Name, parts: Parts) -> Resul
 }
 
 /// What the piece comes to whose machine, as it was lent, was given back, with the halt to which it was evaluated, where it
-/// was. For want of memory the history is as it was, and the piece as it was, or ready to settle.
+/// was. It is no turn that runs ahead of the history, and begins none: either is taken for want of memory. For want of memory the
+/// history is as it was, and the piece as it was, or ready to settle.
 pub fn give_to(
     kept: &mut Kept,
     alloc: Global,
@@ -126,6 +132,7 @@ pub fn give_to(
     halt: Option<Halt>,
 ) -> Result<Given, AllocError>
     requires stands { Stands (shared_of kept.old) }
+    requires marks { AreMarked (shared_of kept.old) }
     requires going { kept.old.end ≡ None }
     requires unfinished { IsOpenUnit kept.old.units name.now }
     requires same { IsSameMachine (kept_machine (shared_of kept.old) name.now) machine }
@@ -150,6 +157,7 @@ fn give_moved(
     moved: Moved,
 ) -> Result<Given, AllocError>
     requires stands { Stands (shared_of kept.old) }
+    requires marks { AreMarked (shared_of kept.old) }
     requires going { kept.old.end ≡ None }
     requires unfinished { IsOpenUnit kept.old.units name.now }
     requires moved { IfSome (kept_machine (shared_of kept.old) name.now) (λ m. IsMovedOn (arc_value kept.old.program) m moved) }
@@ -168,6 +176,7 @@ fn give_moved(
 /// has. Another one, of which no claim knows, is taken for want of memory.
 fn give_ended(kept: &mut Kept, alloc: Global, name: &Name) -> Result<Given, AllocError>
     requires stands { Stands (shared_of kept.old) }
+    requires marks { AreMarked (shared_of kept.old) }
     requires going { kept.old.end ≡ None }
     requires none { kept_machine (shared_of kept.old) name.now ≡ None }
     ensures { GivesTo (shared_of kept.old) name.now (shared_of kept.new) result }
@@ -191,7 +200,7 @@ fn stander_of(kept: &Kept, alloc: Global, name: &Name) -> Result<Stander, AllocE
     }
 }
 
-/// A unit that stands where the history left it. One that runs ahead, which there is none of, is taken for want of memory.
+/// A unit that stands where the history left it. One that runs ahead is taken for want of memory.
 fn level_unit(kept: &Kept, name: &Name) -> Result<Stander, AllocError>
     requires { IsSome (unit_at kept.now.units name.now) }
     ensures { IfOk result (IsStanderOf (shared_of kept.now) name.now) }
@@ -235,7 +244,7 @@ fn check_attempt(kept: &Kept, owner: &Name) -> Result<(), AllocError>
 }
 
 /// The machine as it was moved, and where it halts. A machine that was not evaluated is run on to there.
-fn moved_on(
+pub(crate) fn moved_on(
     alloc: Global,
     machine: Machine,
     halt: Option<Halt>,

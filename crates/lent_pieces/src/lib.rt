@@ -3,6 +3,7 @@
 
 mod claims;
 mod giving;
+mod leading;
 
 pub use claims::{abandon, claim_piece, copy_machine, work_in};
 pub use giving::{give, give_to};

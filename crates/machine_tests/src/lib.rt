@@ -1,11 +1,7 @@
-//! Tests of histories, answers and the stack machine, over the crates that have them.
+//! Tests of histories and of the answers of a machine.
 #![tactic(auto)]
 
 #[cfg(test)]
 mod answers;
 #[cfg(test)]
 mod histories;
-#[cfg(test)]
-mod machines;
-#[cfg(test)]
-mod sent;

@@ -1,30 +1,35 @@
 -- How one thread ends a run.
-use Rattle.std.proofs.Common.{◌≡◌, ◌∙◌, Bool, true, false, cond, [], ◌++◌, append-nil, append_assoc, refl, sym, ap, ap₂, subst}
+use Rattle.std.proofs.Common.{◌≡◌, ◌∙◌, Bool, true, false, cond, [], refl, sym, ap, ap₂, subst}
 use Rattle.std.specs.declared.cmp.Ordering.{Ordering}
 use Rattle.std.specs.declared.cmp.Ordering.TheVariants.{Equal, Greater, Less}
 use Rattle.std.specs.Option.{option_and_then, option_map}
 use Rattle.std.specs.Ordering.{is_gt}
-use Rattle.std.specs.Prelude.{IsSome, None, Option, Some, not, ◌↔◌, if◌then◌else◌}
-use Rattle.attempt_steps.proofs.Aborting.{trying-unfinished}
+use Rattle.std.specs.Prelude.{Err, IsSome, None, Ok, OnErr, OnOk, Option, Result, Some, not, ◌↔◌, if◌then◌else◌}
+use Rattle.attempts_gone.proofs.Dropped.{trying-unfinished}
 use Rattle.run_end.proofs.Finished.{open-not-over, over-set}
+use Rattle.run_end.proofs.Level.{none-comes}
 use Rattle.run_end.proofs.Turns.{turns-given, turns-itself, turns-none, turns-then}
 use Rattle.lent_pieces.proofs.Lending.{pieces-stand}
-use Rattle.run_end.specs.Finishing.{AreEnding, GoesOn, IsEnded, IsFinished, IsNextOr, LentAfter, NoneOut, NoneTried}
-use Rattle.run_end.specs.InTurn.{GoesInTurn, IsInTurn}
+use Rattle.run_end.specs.Finishing.{AreEnding, GoesOn, IsEnded, IsFinished, LentAfter, NoneOut, NoneTried}
+use Rattle.world_reset.specs.Plan.{IsNextOr}
+use Rattle.world_reset.specs.Putting.{NoneMoreOut}
+use Rattle.run_end.specs.InTurn.{GoesInTurn, IsInTurn, IsLevel}
 use Rattle.lent_pieces.specs.Giving as giving
 use Rattle.lent_pieces.specs.Giving.{IsOpenUnit, PieceGave}
 use Rattle.world_steps.specs.Kept.{IsSameBut}
 use Rattle.run_end.specs.Over.{IsOverWith}
 use Rattle.attempt_steps.specs.Tasks.{IsWanting}
-use Rattle.attempt_steps.specs.Undoing.{HasAborted, HasAttempt, HasUndone}
+use Rattle.attempts_gone.specs.Dropping.{HasAttempt}
 use Rattle.serial_model.specs.declared.end.End.{End}
 use Rattle.serial_model.specs.declared.entry.Entry.{Entry}
 use Rattle.serial_model.specs.Step.{next_of}
-use Rattle.shared_world.proofs.Gone.{aborted, seen-as}
+use Rattle.shared_world.proofs.Gone.{seen-as}
+use Rattle.shared_world.proofs.MarkedReset.{resets-mark}
+use Rattle.shared_world.proofs.Resetting.{resets-stand}
 use Rattle.shared_world.proofs.Kept.{task-gave, unit-gave}
 use Rattle.shared_world.proofs.Later.{gave-actor-appends, gave-task-appends, gave-unit-appends}
 use Rattle.shared_world.proofs.Live.{state-there, unit-piece}
-use Rattle.shared_world.proofs.MarkedTasks.{marked-task, undone-marked}
+use Rattle.shared_world.proofs.MarkedTasks.{marked-task}
 use Rattle.shared_world.proofs.MarkedTurns.{marked-turn}
 use Rattle.shared_world.proofs.MarkedUnits.{marked-unit}
 use Rattle.shared_world.proofs.Marks.{marked-same, pieces-marks}
@@ -33,8 +38,8 @@ use Rattle.shared_world.proofs.Turns.{actor-gave}
 use Rattle.shared_world.specs.declared.given.Given.{Given}
 use Rattle.shared_world.specs.declared.given.Given.TheVariants as given
 use Rattle.shared_world.specs.Marks.{HasMarks}
-use Rattle.shared_world.specs.rows.Attempts.{Aborts}
 use Rattle.shared_world.specs.rows.Pieces.{ClaimsEnd, but_gone}
+use Rattle.shared_world.specs.rows.Resetting.{Resets}
 use Rattle.shared_world.specs.Seen.{AttemptSeen, live_with}
 use Rattle.shared_world.specs.Shared.{Shared, claimed, finished_by, is_going, unit_state, work_in}
 use Rattle.shared_world.specs.Stands.{Stands}
@@ -56,11 +61,15 @@ use Rattle.value_core.specs.NameSet.{holds_at}
 use Rattle.world_model.specs.StandsFor.{AttemptStands}
 
 -- ---- what goes on
+-- where the same runs ahead and is taken
+level-same : (old new : Shared) → new.aheads ≡ old.aheads → new.taken ≡ old.taken → IsLevel old → IsLevel new
+level-same old new aheads taken level = record { aheads = λ u. ap (named u) aheads ∙ level.aheads u; taken = λ a. ap (named a) taken ∙ level.taken a }
+
 pub goes-itself : (s : Shared) → Stands s → GoesOn s s
-goes-itself s st = record { stands = st; marks = λ marks. marks; turns = turns-itself s; claims = λ none. none }
+goes-itself s st = record { stands = st; marks = λ marks. marks; turns = turns-itself s; claims = λ none. none; level = λ level. level }
 
 pub goes-then : (first mid last : Shared) → GoesOn first mid → GoesOn mid last → GoesOn first last
-goes-then first mid last a b = record { stands = b.stands; marks = λ marks. b.marks (a.marks marks); turns = turns-then first mid last a.turns b.turns; claims = λ none. b.claims (a.claims none) }
+goes-then first mid last a b = record { stands = b.stands; marks = λ marks. b.marks (a.marks marks); turns = turns-then first mid last a.turns b.turns; claims = λ none. b.claims (a.claims none); level = λ level. b.level (a.level level) }
 
 -- once the run has ended no claim is out
 pub out-none : (s : Shared) (t : Ticket) → (is_going s.end ≡ true → claimed s t ≡ None) → claimed s t ≡ None
@@ -80,6 +89,7 @@ same-goes old new st is = record {
   marks = pieces-marks old new is.pieces is.rest;
   turns = turns-none old new (ap (λ (s : Shared). s.setup) is.rest) (ap (λ (s : Shared). s.history) is.rest);
   claims = λ none t. ap₂ (λ (end : Option End) found. if is_going end then found else None) (ap (λ (s : Shared). s.end) is.rest) (is.claims.to t) ∙ none t;
+  level = level-same old new (ap (λ (s : Shared). s.aheads) is.rest) (ap (λ (s : Shared). s.taken) is.rest);
 }
 
 -- ---- a piece that takes a step
@@ -90,18 +100,21 @@ gave-goes old new name found st going unfinished turn (giving.unit g) = record {
       (record { going = going; there = state-there old.board name g.unit g.there; unfinished = unfinished g.unit g.there; level = g.level }) g.there found new on_going (next_of old.setup (unit_state g.unit)) refl g.gives;
   turns = turns-given old new st found (gave-unit-appends old name found new g) turn;
   claims = ends-none _ old new g.claims;
+  level = λ level. none-comes old level name found new (giving.unit g);
 }
 gave-goes old new name found st going unfinished turn (giving.task g) = record {
   stands = task-gave old st going name found new g;
   marks = λ marks on_going. marked-task old st (marks (ap is_going going)) going name found new on_going g;
   turns = turns-given old new st found (gave-task-appends old name found new g) turn;
   claims = ends-none _ old new g.claims;
+  level = λ level. none-comes old level name found new (giving.task g);
 }
 gave-goes old new name found st going unfinished turn (giving.actor g) = record {
   stands = actor-gave old st going name found new g;
   marks = λ marks on_going. marked-turn old st (marks (ap is_going going)) (ap is_going going) name found new g on_going;
   turns = turns-given old new st found (gave-actor-appends old name found new g) turn;
   claims = ends-none _ old new g.claims;
+  level = λ level. none-comes old level name found new (giving.actor g);
 }
 
 -- a piece for whose step there was no memory
@@ -111,6 +124,7 @@ wanting-goes old new name going is = record {
   marks = is.marks;
   turns = turns-none old new (ap (λ (s : Shared). s.setup) is.rest) (ap (λ (s : Shared). s.history) is.rest);
   claims = λ none t. out-none new t (λ on_going. ap (λ g. if g then lent_to new.board t else None) on_going ∙ still-none none t);
+  level = level-same old new (ap (λ (s : Shared). s.aheads) is.rest) (ap (λ (s : Shared). s.taken) is.rest);
 }
   where
     not-lent : NoneOut old → (t : Ticket) → lent_to old.board t ≡ None
@@ -135,23 +149,21 @@ tried-has s st going u some = on (named u s.attempts) refl some
     on None is e = cc
     on (Some tree) is e = there tree is (unit_at s.board u) refl
 
-module _ (old new : Shared) (u : Name) (st : Stands old) (going : old.end ≡ None) (has : HasAttempt old u) (undone : HasUndone old u new) where
-  aborts : HasAborted old u [] 0 new (given.Aborted u [] 0)
-  aborts = undone [] 0
-
-  row : Aborts old u has.unit has.tree [] 0 (given.Aborted u [] 0) new
-  row = aborts.row has.unit has.tree has.there has.attempt
-
-  pub undone-goes : GoesOn old new
-  undone-goes = record {
-    stands = aborted old st (ap is_going going) u has.unit has.tree has.there has.attempt [] 0 (given.Aborted u [] 0) new row;
-    marks = λ marks on_going. undone-marked old (marks (ap is_going going)) u has.unit has.tree has.there has.attempt [] 0 (given.Aborted u [] 0) new row;
-    turns = turns-none old new (ap (λ (s : Shared). s.setup) row.others) (ap (λ (s : Shared). s.history) row.others);
-    claims = ends-none _ old new (aborts.claims has.tree has.attempt);
+-- ---- back to where the history left everything
+module _ (old new : Shared) (st : Stands old) where
+  pub reset-goes : Resets old new → NoneMoreOut old.board new.board → GoesOn old new
+  reset-goes r out = record {
+    stands = resets-stand old new st r;
+    marks = λ marks. resets-mark old new st marks r;
+    turns = turns-none old new (ap (λ (s : Shared). s.setup) r.others) (ap (λ (s : Shared). s.history) r.others);
+    claims = λ none t. out-none new t (λ on_going. ap (λ g. if g then lent_to new.board t else None) on_going ∙ out t (sym (ap (λ g. if g then lent_to old.board t else None) (sym (ap (λ (s : Shared). is_going s.end) r.others) ∙ on_going)) ∙ none t));
+    level = λ level. record { aheads = r.aheads; taken = r.taken };
   }
 
-  pub undone-going : new.end ≡ None
-  undone-going = ap (λ (s : Shared). s.end) row.others ∙ going
+  -- or for want of memory nothing has changed but room
+  pub reset-or-same : {X E : Type 0} (result : Result X E) → OnOk result (Resets old new) → OnOk result (NoneMoreOut old.board new.board) → OnErr result (IsSameBut old new) → GoesOn old new
+  reset-or-same (Ok x) r out same = reset-goes r out
+  reset-or-same (Err e) r out same = same-goes old new st same
 
 -- ---- the end
 -- a unit with no value is not finished
@@ -216,18 +228,18 @@ module _ (s : Shared) (st : Stands s) where
       attempts = λ going u tree there. cc;
       numbers = st.numbers;
       aheads = st.aheads;
-      sent = st.sent;
     }
 
     -- and so are their marks
     pub cleared-marks : HasMarks s → HasMarks (record s { attempts = [] })
     cleared-marks marks going = marked-same s (record s { attempts = [] }) (record { setup = refl; attempts = λ v. sym (going-none going v); owners = refl; aheads = refl; taken = refl; pieces = λ q. refl; mails = λ a. refl }) (marks going)
 
-pub cleared-finished : (s : Shared) (end : End) → IsOverWith s end → NoneOut s → IsFinished (record s { attempts = [] }) end
-cleared-finished s end over none = record {
+pub cleared-finished : (s : Shared) (end : End) → IsOverWith s end → NoneOut s → IsLevel s → IsFinished (record s { attempts = [] }) end
+cleared-finished s end over none level = record {
   over = record { state = over.state; replays = over.replays; over = over.over };
   attempts = λ u. refl;
   claims = none;
+  level = record { aheads = level.aheads; taken = level.taken };
 }
 
 -- ---- claims that end
@@ -326,6 +338,7 @@ ending-goes s b st are = record {
   marks = pieces-marks s (record s { board = b }) are.pieces refl;
   turns = turns-none s (record s { board = b }) refl refl;
   claims = λ none t. on t (is_going s.end) (none t);
+  level = λ level. record { aheads = level.aheads; taken = level.taken };
 }
   where
     on : (t : Ticket) (g : Bool) → (if g then lent_to s.board t else None) ≡ None → (if g then lent_to b t else None) ≡ None

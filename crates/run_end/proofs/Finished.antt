@@ -1,5 +1,5 @@
 -- A run is over exactly where an end is set, or nothing is left to be done.
-use Rattle.std.proofs.Common.{◌≡◌, ◌∙◌, Bool, true, false, [], ◌∷◌, length, refl, sym, ap, subst}
+use Rattle.std.proofs.Common.{◌≡◌, ◌∙◌, Bool, true, false, refl, sym, ap, subst}
 use Rattle.std.specs.Borrow.{Bor}
 use Rattle.std.specs.Option.{is_some, option_copied}
 use Rattle.std.specs.Prelude.{IsTrue, None, Option, Some, ◌↔◌}
@@ -13,9 +13,8 @@ use Rattle.shared_world.proofs.Over.{end-same, now, over-at-rest, replays-here, 
 use Rattle.shared_world.specs.Rest.{IsAtRest}
 use Rattle.shared_world.specs.Shared.{Shared}
 use Rattle.shared_world.specs.Stands.{Stands}
-use Rattle.turns_ahead.specs.Leading.{Leading, ahead_of}
 use Rattle.unit_table.specs.Board.{is_unfinished}
-use Rattle.value_core.specs.Named.{Name, Named, each_as, named}
+use Rattle.value_core.specs.Named.{Name}
 
 -- the end of a state is one
 one-end : (a b : End) → Some a ≡ Some b → a ≡ b
@@ -62,8 +61,3 @@ module _ (s : Shared) (st : Stands s) where
 pub over-where-seen : (s : Shared) (seen : Option (Bor End)) (b : Bool) → b ≡ is_some seen → ((end : End) → IsOverWith s end ↔ (option_copied seen ≡ Some end)) → IsTrue b ↔ IsRunOver s
 over-where-seen s None b none is = (λ some. let both : true ≡ false = sym some ∙ none in cc, λ over. let no : None ≡ Some over.0 = (is over.0).0 over.1 in cc)
 over-where-seen s (Some end) b some is = (λ seen. (end.now, (is end.now).1 refl), λ over. some)
-
--- where nothing is kept of turns that run ahead there is none
-pub none-ahead : (es : Named Leading) → length es ≡ 0 → (u : Name) → named u (each_as ahead_of es) ≡ None
-none-ahead [] is u = refl
-none-ahead (e ∷ es) is u = cc

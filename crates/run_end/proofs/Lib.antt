@@ -1,4 +1,5 @@
 pub mod Ends
 pub mod Finished
+pub mod Level
 pub mod Turns
 pub mod Walked

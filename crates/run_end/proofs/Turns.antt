@@ -1,12 +1,11 @@
 -- Entries that are settled in turn.
-use Rattle.std.proofs.Common.{◌≡◌, ◌∙◌, ◌⊎◌, inl, inr, Bool, true, false, [], ◌∷◌, ◌++◌, List, append-nil, append_assoc, refl, sym, ap, subst}
+use Rattle.std.proofs.Common.{◌≡◌, ◌∙◌, inl, inr, true, false, [], ◌∷◌, ◌++◌, List, append-nil, append_assoc, refl, sym, ap, subst}
 use Rattle.std.specs.declared.cmp.Ordering.{Ordering}
 use Rattle.std.specs.declared.cmp.Ordering.TheVariants.{Equal, Greater, Less}
 use Rattle.std.specs.Option.{option_and_then, option_map}
 use Rattle.std.specs.Ordering.{is_gt, ordering_reverse}
 use Rattle.std.specs.Prelude.{IfSome, IsSome, None, Option, Some, not}
-use Rattle.lent_pieces.specs.Giving as giving
-use Rattle.lent_pieces.specs.Giving.{IsOpenUnit, PieceGave}
+use Rattle.lent_pieces.specs.Giving.{IsOpenUnit}
 use Rattle.run_end.specs.InTurn.{AreInTurn, GoesInTurn, IsDue, IsDuePiece, IsInTurn, IsOpen, IsUpTo}
 use Rattle.serial_model.proofs.runs.Replays.{replay_from-append}
 use Rattle.serial_model.specs.declared.entry.Entry.{Entry}
@@ -36,7 +35,6 @@ use Rattle.value_core.specs.NameOrder.{after_cmp_total}
 use Rattle.value_core.specs.Named.{Name, named}
 use Rattle.value_core.specs.NameSet.{holds_at}
 use Rattle.world_model.specs.StandsFor.{UnitStands}
-use Rattle.world_model.specs.World.{LiveUnit}
 
 -- ---- entries in turn
 any-step : (setup : Setup) (next : Option State) → IfSome next (λ t. AreInTurn setup t [])

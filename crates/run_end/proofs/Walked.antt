@@ -3,13 +3,14 @@ use Rattle.std.proofs.Common.{◌≡◌, ◌∙◌, ◌⊎◌, inl, inr, true, f
 use Rattle.std.specs.declared.cmp.Ordering.TheVariants.{Less}
 use Rattle.std.specs.Option.{option_and_then}
 use Rattle.std.specs.Prelude.{IfSome, IsSome, None, Option, Some}
-use Rattle.attempt_steps.proofs.Aborting.{trying-unfinished}
+use Rattle.attempts_gone.proofs.Dropped.{trying-unfinished}
 use Rattle.lent_pieces.specs.Giving as giving
 use Rattle.lent_pieces.specs.Giving.{PieceGave}
 use Rattle.run_end.proofs.Ends.{tried-has}
+use Rattle.run_end.proofs.Level.{none-comes}
 use Rattle.run_end.proofs.Turns.{both-up-to, due-open, next-first, run-in-turn, take-in-turn, unfinished-at}
 use Rattle.run_end.specs.Finishing.{NoneTried}
-use Rattle.run_end.specs.InTurn.{IsDue, IsDuePiece, IsInTurn, IsLeft, IsUpTo, IsWalked, IsWalkedOr, number_in}
+use Rattle.run_end.specs.InTurn.{IsDue, IsDuePiece, IsInTurn, IsLeft, IsUpTo, IsWalked, IsWalkedOr, IsLevel, number_in}
 use Rattle.serial_model.specs.declared.entry.Entry.{Entry}
 use Rattle.serial_model.specs.declared.halt.Halt.{Halt}
 use Rattle.serial_model.specs.declared.halt.Halt.TheVariants as halt
@@ -28,9 +29,7 @@ use Rattle.shared_world.specs.rows.Units.{Tries, UnitGives}
 use Rattle.shared_world.specs.Shared.{Shared, is_going, unit_state}
 use Rattle.shared_world.specs.Stands.{IsUnderWay, Stands}
 use Rattle.task_fork_join.specs.Attempt.{Attempt}
-use Rattle.unit_table.specs.Board.{Board, ComesAfter, IsNextAfter, is_unfinished, piece_at}
-use Rattle.unit_table.specs.declared.piece.Piece.{Piece}
-use Rattle.unit_table.specs.declared.piece.Piece.TheVariants as piece
+use Rattle.unit_table.specs.Board.{ComesAfter, IsNextAfter, is_unfinished}
 use Rattle.value_core.specs.Name.{after_cmp}
 use Rattle.value_core.specs.Named.{Name, Named, made_by, named}
 
@@ -55,23 +54,23 @@ not-none : (tried : Option Attempt) → tried ≡ None → IsSome tried → ⊥
 not-none None e is = cc
 not-none (Some tree) e is = cc
 
--- the walk begins where no unit has an attempt
-pub walked-first : (s : Shared) → (s.end ≡ None → NoneTried s.attempts) → IsWalkedOr s None
-walked-first s none going = record { behind = λ u is. tt; tried = λ v some u is. absurd (not-none (named v s.attempts) (none going v) some) }
+-- the walk begins where no unit has an attempt, and none runs ahead
+pub walked-first : (s : Shared) → NoneTried s.attempts → IsLevel s → IsWalkedOr s None
+walked-first s none level going = record { level = level; behind = λ u is. tt; tried = λ v some u is. absurd (not-none (named v s.attempts) (none v) some) }
 
 -- from the beginning each piece comes behind what was passed
 pub walked-anew : (s : Shared) (passed : Option Name) → IsWalked s passed → IsWalked s None
-walked-anew s passed walked = record { behind = λ u is. tt; tried = walked.tried }
+walked-anew s passed walked = record { level = walked.level; behind = λ u is. tt; tried = walked.tried }
 
 -- a piece that is no unfinished unit is passed
 pub walked-past : (s : Shared) (passed : Option Name) (name : Name) → IsWalked s passed → IsNextAfter s.board passed name → is_unfinished s.board name ≡ false → IsWalked s (Some name)
-walked-past s passed name walked next shut = record { behind = λ u is. on u is (next-first s.board passed name next walked.behind u is); tried = walked.tried }
+walked-past s passed name walked next shut = record { level = walked.level; behind = λ u is. on u is (next-first s.board passed name next walked.behind u is); tried = walked.tried }
   where
     on : (u : Name) → is_unfinished s.board u ≡ true → IsUpTo name u → after_cmp name u ≡ Less
     on u is (inl same) = let no : false ≡ true = sym shut ∙ ap (is_unfinished s.board) same ∙ is in cc
     on u is (inr less) = less
 
-module _ (old : Shared) (st : Stands old) (going : old.end ≡ None) (level : (u : Name) → named u old.aheads ≡ None) (passed : Option Name) (name : Name) (walked : IsWalked old passed) (next : IsNextAfter old.board passed name) (due : IsDue old.board name) where
+module _ (old : Shared) (st : Stands old) (going : old.end ≡ None) (passed : Option Name) (name : Name) (walked : IsWalked old passed) (next : IsNextAfter old.board passed name) (due : IsDue old.board name) where
   first : (u : Name) → is_unfinished old.board u ≡ true → IsUpTo name u
   first = next-first old.board passed name next walked.behind
 
@@ -98,14 +97,14 @@ module _ (old : Shared) (st : Stands old) (going : old.end ≡ None) (level : (u
     pub due-turn : PieceGave old name found new → (e : Entry) → found ≡ given.Settled e → IsInTurn (now old st) e
     due-turn (giving.unit g) e is =
         let spread = gave-unit-spread old name found new g (unit-open g) in
-        subst (IsInTurn (now old st)) (sym (spread.entry e is)) (run-in-turn old st level name (unit-open g) first)
+        subst (IsInTurn (now old st)) (sym (spread.entry e is)) (run-in-turn old st walked.level.aheads name (unit-open g) first)
     due-turn (giving.task g) e is =
         let spread = gave-task-spread old name found new g (owner-open g) in
-        subst (IsInTurn (now old st)) (sym (spread.entry e is)) (run-in-turn old st level g.owner (owner-open g) (walked.tried g.owner (owner-tried g)))
+        subst (IsInTurn (now old st)) (sym (spread.entry e is)) (run-in-turn old st walked.level.aheads g.owner (owner-open g) (walked.tried g.owner (owner-tried g)))
     due-turn (giving.actor g) e is =
         let spread = gave-actor-spread old name found new g in
         let take = spread.entry e is in
-        subst (IsInTurn (now old st)) (sym take.1.1) (take-in-turn old st level take.0 take.1.0 (actor-all g))
+        subst (IsInTurn (now old st)) (sym take.1.1) (take-in-turn old st walked.level.aheads take.0 take.1.0 (actor-all g))
 
     module _ (left : Option Name) (is_left : IsLeft old.board name passed left) where
       -- what a unit makes next, and the next turn of an actor
@@ -119,7 +118,7 @@ module _ (old : Shared) (st : Stands old) (going : old.end ≡ None) (level : (u
       was-behind u is = is_left.behind u (walked.behind u is)
 
       unit-walked : (g : GaveUnit old name found new) → IsWalked new left
-      unit-walked g = record { behind = λ u is. behind u is spread.opens; tried = λ v some u is. tried v u is (spread.tries v some) }
+      unit-walked g = record { level = none-comes old walked.level name found new (giving.unit g); behind = λ u is. behind u is spread.opens; tried = λ v some u is. tried v u is (spread.tries v some) }
         where
           made : Name
           made = made_by name g.unit.made
@@ -146,13 +145,13 @@ module _ (old : Shared) (st : Stands old) (going : old.end ≡ None) (level : (u
           tried v u is (inr here) = subst (λ n. IsUpTo n u) (sym here.0) (first u (here.1 u is))
 
       task-walked : (g : GaveTask old name found new) → IsWalked new left
-      task-walked g = record { behind = λ u is. was-behind u (spread.opens u is); tried = λ v some u is. walked.tried v (spread.tries v some) u (spread.opens u is) }
+      task-walked g = record { level = none-comes old walked.level name found new (giving.task g); behind = λ u is. was-behind u (spread.opens u is); tried = λ v some u is. walked.tried v (spread.tries v some) u (spread.opens u is) }
         where
           spread : IsTaskSpread old g.owner found new
           spread = gave-task-spread old name found new g (owner-open g)
 
       actor-walked : (g : GaveActor old name found new) → IsWalked new left
-      actor-walked g = record { behind = λ u is. opened u (spread.opens u is); tried = λ v some u is. absurd (none v (subst (λ (a : Named Attempt). IsSome (named v a)) spread.attempts some)) }
+      actor-walked g = record { level = none-comes old walked.level name found new (giving.actor g); behind = λ u is. opened u (spread.opens u is); tried = λ v some u is. absurd (none v (subst (λ (a : Named Attempt). IsSome (named v a)) spread.attempts some)) }
         where
           spread : IsTurnSpread old (made_by name g.actor.state.turns) found new
           spread = gave-actor-spread old name found new g

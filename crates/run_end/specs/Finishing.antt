@@ -1,13 +1,13 @@
 -- How one thread ends a run.
-use Rattle.std.specs.Prelude.{◌≡◌, IsSome, None, Option, Some}
-use Rattle.run_end.specs.InTurn.{GoesInTurn}
+use Rattle.std.specs.Prelude.{◌≡◌, None, Option, Some}
+use Rattle.run_end.specs.InTurn.{GoesInTurn, IsLevel}
 use Rattle.run_end.specs.Over.{IsOverWith}
 use Rattle.serial_model.specs.declared.end.End.{End}
 use Rattle.shared_world.specs.Marks.{HasMarks}
 use Rattle.shared_world.specs.Shared.{Shared, claimed}
 use Rattle.shared_world.specs.Stands.{Stands}
 use Rattle.task_fork_join.specs.Attempt.{Attempt}
-use Rattle.unit_table.specs.Board.{Board, ComesAfter, IsNextAfter, SamePieces, but_for, lent_to, piece_at}
+use Rattle.unit_table.specs.Board.{Board, ComesAfter, SamePieces, but_for, lent_to}
 use Rattle.value_core.specs.declared.ticket.Ticket.{Ticket}
 use Rattle.value_core.specs.Named.{Name, Named, named}
 
@@ -19,38 +19,26 @@ NoneOut s = (ticket : Ticket) → claimed s ticket ≡ None
 abbrev pub NoneTried : Named Attempt → Type 0
 NoneTried attempts = (u : Name) → named u attempts ≡ None
 
--- no turn runs ahead of the history
-abbrev pub NoneAhead : Shared → Type 0
-NoneAhead s = (u : Name) → named u s.aheads ≡ None
-
--- the run is over with that end; no attempt is there, and no claim is out
+-- the run is over with that end; no attempt is there, no claim is out, and nothing runs ahead of the history
 pub record IsFinished (s : Shared) (end : End) : Type 0 where
   pub over : IsOverWith s end
   pub attempts : NoneTried s.attempts
   pub claims : NoneOut s
+  pub level : IsLevel s
 
 -- What is kept stands, the marks are right where they were, the history goes on in turn from where it was, and where no claim was out
--- none is.
+-- none is, and where nothing ran ahead of the history nothing does.
 pub record GoesOn (old new : Shared) : Type 0 where
   pub stands : Stands new
   pub marks : HasMarks old → HasMarks new
   pub turns : GoesInTurn old new
   pub claims : NoneOut old → NoneOut new
+  pub level : IsLevel old → IsLevel new
 
 -- the run is over with that end, or it goes on
 abbrev pub IsOverOr : Shared → Option End → Type 0
 IsOverOr s None = s.end ≡ None
 IsOverOr s (Some end) = IsOverWith s end
-
--- that unit has an attempt, or none has
-abbrev pub IsTriedOr : Named Attempt → Option Name → Type 0
-IsTriedOr attempts None = NoneTried attempts
-IsTriedOr attempts (Some u) = IsSome (named u attempts)
-
--- the piece under that name is the first behind the other one, or none is behind it
-abbrev pub IsNextOr : Board → Option Name → Option Name → Type 0
-IsNextOr b passed None = (other : Name) → ComesAfter passed other → piece_at b other ≡ None
-IsNextOr b passed (Some next) = IsNextAfter b passed next
 
 -- the pieces stay, and where no claim was out none is
 pub record AreEnding (old new : Board) : Type 0 where

@@ -47,9 +47,15 @@ pub record GoesInTurn (old new : Shared) : Type 0 where
   pub history : new.history ≡ old.history ++ more
   pub in_turn : IfSome (replay old.setup old.history) (λ s. AreInTurn old.setup s more)
 
+-- no turn runs ahead of the history, and no message was taken of which that knows nothing
+pub record IsLevel (s : Shared) : Type 0 where
+  pub aheads : (u : Name) → named u s.aheads ≡ None
+  pub taken : (a : Name) → named a s.taken ≡ None
+
 -- ---- a walk over the pieces in after-order
--- Each unit that is not finished comes behind what was passed, and a unit that has an attempt is the first of them.
+-- Nothing runs ahead, each unit that is not finished comes behind what was passed, and a unit that has an attempt is the first of them.
 pub record IsWalked (s : Shared) (passed : Option Name) : Type 0 where
+  pub level : IsLevel s
   pub behind : (u : Name) → is_unfinished s.board u ≡ true → ComesAfter passed u
   pub tried : (v : Name) → IsSome (named v s.attempts) → (u : Name) → is_unfinished s.board u ≡ true → IsUpTo v u
 

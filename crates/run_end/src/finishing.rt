@@ -1,8 +1,8 @@
 // How one thread ends a run.
 ghost use Rattle.std.specs.Prelude.{◌≡◌, [], IfOk, None, OnOk, Some, false, true};
 ghost use Rattle.std.specs.Option.{option_and_then};
-ghost use Rattle.run_end.specs.Finishing.{AreEnding, GoesOn, IsEnded, IsFinished, IsNextOr, IsOverOr, IsTriedOr, NoneAhead, NoneOut, NoneTried};
-ghost use Rattle.run_end.specs.InTurn.{GoesInTurn, IsDue, IsLeft, IsWalked, IsWalkedOr, number_at};
+ghost use Rattle.run_end.specs.Finishing.{AreEnding, GoesOn, IsEnded, IsFinished, IsOverOr, NoneOut, NoneTried};
+ghost use Rattle.run_end.specs.InTurn.{GoesInTurn, IsDue, IsLeft, IsWalked, IsWalkedOr, IsLevel, number_at};
 ghost use Rattle.run_end.specs.Over.{IsOverWith};
 ghost use Rattle.shared_world.specs.Later.{IsLater};
 ghost use Rattle.shared_world.specs.Marks.{HasMarks};
@@ -15,7 +15,6 @@ ghost use Rattle.value_core.specs.Named.{Name as Called};
 ghost use Rattle.world_steps.specs.Kept.{shared_of};
 
 use crate::over::end_by;
-use attempt_steps::undo;
 use lent_pieces::{copy_machine, give_to, work_in};
 use serial_model::End;
 use shared_world::Given;
@@ -24,12 +23,15 @@ use std::collections::BTreeMap;
 use task_fork_join::Tree;
 use unit_table::{Mark, Piece, Units, Work};
 use value_core::Name;
+use world_reset::{next_piece, reset};
 use world_steps::Kept;
 
-/// Ends the run by one thread: every claim and every attempt ends, and then one entry after the other is settled, each in turn, until
-/// the run is over. For want of memory the history has grown by whole entries.
+/// Ends the run by one thread: every claim ends, everything goes back to where the history left it, so that no attempt is left, no turn
+/// runs ahead, and nothing is held, and then one entry after the other is settled, each in turn, until the run is over. For want of memory
+/// the history has grown by whole entries.
 pub fn finish(kept: &mut Kept, alloc: Global) -> Result<End, AllocError>
     requires stands { Stands (shared_of kept.old) }
+    requires marks { HasMarks (shared_of kept.old) }
     ensures stands { Stands (shared_of kept.new) }
     ensures marks { HasMarks (shared_of kept.old) → HasMarks (shared_of kept.new) }
     ensures later { IsLater (shared_of kept.old) (shared_of kept.new) }
@@ -42,50 +44,22 @@ pub fn finish(kept: &mut Kept, alloc: Global) -> Result<End, AllocError>
     Ok(end)
 }
 
-/// Every claim and every attempt ends. Where the run has ended no claim is out.
+/// Every claim ends, and everything goes back to where the history left it: no attempt is left, and no turn runs ahead.
 fn withdraw(kept: &mut Kept, alloc: Global) -> Result<(), AllocError>
     requires stands { Stands (shared_of kept.old) }
     ensures goes { GoesOn (shared_of kept.old) (shared_of kept.new) }
     ensures claims { OnOk result (NoneOut (shared_of kept.new)) }
-    ensures tried { OnOk result (kept.new.end ≡ None → NoneTried kept.new.attempts.entries) }
-{
-    match &kept.end {
-        Some(_) => Ok(()),
-        None => withdraw_going(kept, alloc),
-    }
-}
-
-/// Every claim and every attempt of a run that goes on ends.
-fn withdraw_going(kept: &mut Kept, alloc: Global) -> Result<(), AllocError>
-    requires stands { Stands (shared_of kept.old) }
-    requires going { kept.old.end ≡ None }
-    ensures goes { GoesOn (shared_of kept.old) (shared_of kept.new) }
-    ensures claims { OnOk result (NoneOut (shared_of kept.new)) }
     ensures tried { OnOk result (NoneTried kept.new.attempts.entries) }
+    ensures level { OnOk result (IsLevel (shared_of kept.new)) }
 {
     end_claims(&mut kept.units, alloc)?;
-    undo_all(kept, alloc)
-}
-
-/// Every attempt is undone.
-fn undo_all(kept: &mut Kept, alloc: Global) -> Result<(), AllocError>
-    requires stands { Stands (shared_of kept.old) }
-    requires going { kept.old.end ≡ None }
-    ensures goes { GoesOn (shared_of kept.old) (shared_of kept.new) }
-    ensures none { OnOk result (NoneTried kept.new.attempts.entries) }
-{
-    for _ in 0..u64::MAX {
-        match tried(alloc, &kept.attempts)? {
-            Some(owner) => undo(kept, alloc, &owner)?,
-            None => return Ok(()),
-        }
-    }
-    Err(AllocError)
+    reset(kept, alloc)
 }
 
 /// Settles one entry after the other, each in turn, until the run is over.
 fn settle_all(kept: &mut Kept, alloc: Global) -> Result<End, AllocError>
     requires stands { Stands (shared_of kept.old) }
+    requires marks { HasMarks (shared_of kept.old) }
     requires walked { IsWalkedOr (shared_of kept.old) None }
     ensures goes { GoesOn (shared_of kept.old) (shared_of kept.new) }
     ensures end { IfOk result (IsOverWith (shared_of kept.new)) }
@@ -119,6 +93,7 @@ fn settle_next(
     passed: Option<Name>,
 ) -> Result<Option<Name>, AllocError>
     requires stands { Stands (shared_of kept.old) }
+    requires marks { HasMarks (shared_of kept.old) }
     requires going { kept.old.end ≡ None }
     requires walked { IsWalked (shared_of kept.old) passed }
     ensures goes { GoesOn (shared_of kept.old) (shared_of kept.new) }
@@ -138,6 +113,7 @@ fn settle_or_pass(
     passed: Option<Name>,
 ) -> Result<Option<Name>, AllocError>
     requires stands { Stands (shared_of kept.old) }
+    requires marks { HasMarks (shared_of kept.old) }
     requires going { kept.old.end ≡ None }
     requires walked { IsWalked (shared_of kept.old) passed }
     requires next { IsNextAfter kept.old.units passed name }
@@ -160,6 +136,7 @@ fn settle_due(
     passed: Option<Name>,
 ) -> Result<Option<Name>, AllocError>
     requires stands { Stands (shared_of kept.old) }
+    requires marks { HasMarks (shared_of kept.old) }
     requires going { kept.old.end ≡ None }
     requires walked { IsWalked (shared_of kept.old) passed }
     requires next { IsNextAfter kept.old.units passed name.now }
@@ -167,22 +144,10 @@ fn settle_due(
     ensures goes { GoesOn (shared_of kept.old) (shared_of kept.new) }
     ensures walked { IfOk result (IsWalkedOr (shared_of kept.new)) }
 {
-    check_level(kept)?;
     let left = left_of(&kept.units, alloc, name, passed)?;
     let machine = copy_machine(kept, alloc, name)?;
     let given = give_to(kept, alloc, name, machine, None)?;
     if waits(given) { Ok(None) } else { Ok(left) }
-}
-
-/// No turn runs ahead of the history. Where one does, which there is none of, it is taken for want of memory.
-fn check_level(kept: &Kept) -> Result<(), AllocError>
-    ensures { OnOk result (NoneAhead (shared_of kept.now)) }
-{
-    if kept.aheads.is_empty() {
-        Ok(())
-    } else {
-        Err(AllocError)
-    }
 }
 
 /// Whether the piece waits.
@@ -203,16 +168,6 @@ fn clear_attempts(attempts: &mut BTreeMap<Name, Tree>)
     ensures { attempts.new.entries ≡ [] }
 {
     attempts.clear();
-}
-
-/// A unit that has an attempt. None exactly where no unit has one.
-fn tried(alloc: Global, attempts: &BTreeMap<Name, Tree>) -> Result<Option<Name>, AllocError>
-    ensures { IfOk result (IsTriedOr attempts.now.entries) }
-{
-    match attempts.first_key_value() {
-        Some((name, _)) => Ok(Some(name.copy(alloc)?)),
-        None => Ok(None),
-    }
 }
 
 /// Whether a step of the piece is in turn, where it is the first that is not passed: a unit or a task that is not finished, or an actor
@@ -313,20 +268,6 @@ fn end_claims(units: &mut Units, alloc: Global) -> Result<(), AllocError>
         }
     }
     Err(AllocError)
-}
-
-/// The first piece behind that one, or of all where none is given.
-fn next_piece(
-    units: &Units,
-    alloc: Global,
-    passed: &Option<Name>,
-) -> Result<Option<Name>, AllocError>
-    ensures { IfOk result (IsNextOr units.now passed.now) }
-{
-    match units.next_after(passed.as_ref()) {
-        Some(name) => Ok(Some(name.copy(alloc)?)),
-        None => Ok(None),
-    }
 }
 
 /// The claim on the piece ends, where one is out.

@@ -1,5 +1,5 @@
 -- What an answer does to the attempts, and how often those of a unit are undone.
-use Rattle.std.proofs.Common.{◌≡◌, ◌∙◌, ℕ, ◌+◌, ◌<◌, ◌≤◌, suc, true, false, Bool, cond, List, [], ◌∷◌, ◌++◌, length, length-append, le_refl, refl, sym, ap, ap₂, subst, arith}
+use Rattle.std.proofs.Common.{◌≡◌, ◌∙◌, ℕ, ◌+◌, ◌<◌, ◌≤◌, suc, true, false, Bool, cond, List, [], ◌∷◌, ◌++◌, length, length-append, le_refl, refl, sym, ap, ap₂, subst, arith, ◌⊎◌, inl, inr}
 use Rattle.std.specs.Option.{option_and_then}
 use Rattle.std.specs.Prelude.{Option, None, Some, ◌==◌}
 use Rattle.eval_step.specs.Evaluation.{Evaluation}
@@ -17,6 +17,9 @@ use Rattle.shared_world.proofs.LeadsDo as led
 use Rattle.shared_world.proofs.LeadsDo.{IsLed, lead-led, tentative-led}
 use Rattle.shared_world.proofs.Live.{going}
 use Rattle.shared_world.proofs.Versions.{all-newest, newest-above}
+use Rattle.shared_world.proofs.Posting.{IsPosting, posting-rest, posting-unit, step-posting}
+use Rattle.shared_world.proofs.Sending.{posted-by}
+use Rattle.shared_world.proofs.Undoes.{undoes-ages, unit-without}
 use Rattle.shared_world.specs.Counts as counts
 use Rattle.shared_world.specs.Counts.{IsLateFor, Rests, Runs, age_of, began_on, undone_among, undone_by}
 use Rattle.shared_world.specs.declared.given.Given.{Given}
@@ -26,12 +29,16 @@ use Rattle.shared_world.specs.Gave.{Gave, GaveTask, GaveUnit}
 use Rattle.shared_world.specs.Later.{IsLater}
 use Rattle.shared_world.specs.Opening.{IsOpening}
 use Rattle.shared_world.specs.Returned.{Returned, halt_of}
-use Rattle.shared_world.specs.rows.Attempts.{Aborts, Begins, IsWithout}
+use Rattle.shared_world.specs.rows.Attempts.{Begins, IsWithout}
 use Rattle.shared_world.specs.rows.Pieces.{EndsBy, Settles}
+use Rattle.shared_world.specs.rows.Sending.{sends_in}
 use Rattle.shared_world.specs.rows.Tasks as row
 use Rattle.shared_world.specs.rows.Tasks.{AfterStep, EndGives, Missing, RootGives, StepGives, TaskGives, WaitsForTurn, outer_of}
 use Rattle.shared_world.specs.rows.Turns.{GaveActor, TakesIfAllowed}
+use Rattle.shared_world.specs.rows.Undoing.{Aborts, root_gone}
+use Rattle.shared_world.specs.Laws.{IsTried}
 use Rattle.shared_world.specs.rows.Units.{Becomes, Derefs, Finishes, ForksIfAllowed, Joins, Selves, Tries, UnitGives}
+use Rattle.shared_world.specs.Seen.{done_by_root}
 use Rattle.shared_world.specs.Shared.{Shared, actor_of, finished_at, is_going, ref_now, unit_state}
 use Rattle.shared_world.specs.Stands.{Stands}
 use Rattle.task_fork_join.proofs.Missing.{missing-none}
@@ -44,6 +51,7 @@ use Rattle.task_fork_join.specs.declared.task_end.TaskEnd.{TaskEnd}
 use Rattle.task_fork_join.specs.declared.task_end.TaskEnd.TheVariants as end
 use Rattle.task_fork_join.specs.Step.{IsStep}
 use Rattle.txn_snapshot.specs.SnapshotAnswer.{snapshot_of}
+use Rattle.unit_table.specs.Board.{unit_at}
 use Rattle.unit_table.specs.declared.unit.Unit.{Unit}
 use Rattle.value_core.proofs.NamedLaws.{named-here, named-with_named, same_name-equal, same_name-itself}
 use Rattle.value_core.specs.declared.value.Value.{Value}
@@ -53,12 +61,16 @@ use Rattle.value_core.specs.Named.{Name, Named, named, same_name, with_named}
 abbrev Undoes-none : Given → Type 0
 Undoes-none found = (u : Name) → undone_by u found ≡ 0
 
+-- an attempt stays, or is gone
+abbrev IsLeftOr : Option Attempt → Option Attempt → Type 0
+IsLeftOr old new = (new ≡ old) ⊎ (new ≡ None)
+
 -- the attempts stay; or one begins; or one that is settled goes; or one is undone, for a version above its snapshot
 data Turnover (old : Shared) (found : Given) (new : Shared) : Type 0 where
   same : Undoes-none found → new.attempts ≡ old.attempts → Turnover old found new
   begun : Undoes-none found → (v : Name) (tree : Attempt) → named v old.attempts ≡ None → new.attempts ≡ with_named old.attempts v tree → tree.snapshot ≡ length old.history → Turnover old found new
   gone : Undoes-none found → (v : Name) (tree : Attempt) → named v old.attempts ≡ Some tree → tree.snapshot ≤ length old.history → IsWithout v old.attempts new.attempts → Turnover old found new
-  undone : (v ref : Name) (version : ℕ) → found ≡ given.Aborted v ref version → IsLateFor old v version → IsWithout v old.attempts new.attempts → Turnover old found new
+  undone : (v ref : Name) (version : ℕ) → found ≡ given.Aborted v ref version → IsLateFor old v version → named v new.attempts ≡ None → ((u : Name) → IsLeftOr (named u old.attempts) (named u new.attempts)) → ((u : Name) → age_of old u ≤ age_of new u) → Turnover old found new
 
 -- ---- answers that undo nothing
 none-by : (found other : Given) → found ≡ other → Undoes-none other → Undoes-none found
@@ -121,10 +133,23 @@ module _ (old : Shared) (u : Name) (x : Unit) (found : Given) (new : Shared) whe
 newest-within : (s : Shared) → IsAbove (suc (length s.history)) s.versions → (ref : Name) (version : Version) → newest (versions_of s.versions ref) ≡ Some version → version.number ≤ length s.history
 newest-within s numbers ref version is = let below = all-newest (λ v. v.number < suc (length s.history)) (versions_of s.versions ref) version (numbers ref) is in omega (arith, below)
 
-module _ (base : Shared) (numbers : IsAbove (suc (length base.history)) base.versions) (u : Name) (x : Unit) (tree : Attempt) (there : named u base.attempts ≡ Some tree) (began : tree.snapshot ≤ length base.history)
-    (found : Given) (new : Shared) where
+module _ (base : Shared) (u : Name) (x : Unit) (tree : Attempt) (tried : IsTried base u x tree) (found : Given) (new : Shared) where
+  abbrev there : named u base.attempts ≡ Some tree
+  there = tried.attempt
+
+  abbrev numbers : IsAbove (suc (length base.history)) base.versions
+  numbers = tried.stands.numbers
+
+  began : tree.snapshot ≤ length base.history
+  began = let way = tried.stands.attempts tried.going u tree there in way.within
+
   aborts-turn : (ref : Name) (version : ℕ) → tree.snapshot < version → version ≤ length base.history → Aborts base u x tree ref version found new → Turnover base found new
-  aborts-turn ref version above within r = undone u ref version r.found_is (record { tree = tree; attempt = there; above = above; within = within }) r.goes.attempts
+  aborts-turn ref version above within r = undone u ref version r.found_is (record { tree = tree; attempt = there; above = above; within = within })
+      (unit-without base new u x tree tried r.undoes) (λ v. left-or (root_gone r.undoes.gone (named v base.attempts)) (named v base.attempts) (named v new.attempts) (r.undoes.attempts v)) (undoes-ages base new u x tree tried r.undoes)
+    where
+      left-or : (c : Bool) (was now : Option Attempt) → now ≡ cond c None was → IsLeftOr was now
+      left-or true was now is = inr is
+      left-or false was now is = inl is
 
   end-turn : (e : TaskEnd) → EndGives base u x tree e found new → Turnover base found new
   end-turn (end.Value v) r = gone (none-by found _ r.found_is (λ w. refl)) u tree there began r.goes.attempts
@@ -228,7 +253,7 @@ module _ (old new : Shared) (found : Given) (grows : length old.history ≤ leng
       bounded : (u : Name) → age_of old u ≤ length old.history → (c : Bool) → same_name u v ≡ c → age_of new u ≤ length new.history
       bounded u low true e = let after : age_of new u ≡ tree.snapshot = ap (began_on (length new.history)) (found-at u true e) in omega (arith, after, snapshot, grows)
       bounded u low false e = stays-bound u (found-at u false e) low
-  ages (gone none v tree there began without) = record {
+  ages (gone none v tree there_was low_was without) = record {
     counts = λ u. at u (same_name u v) refl;
     bounds = λ bound u. without-bound v without bound u;
     late = λ u ref version so. none-late u ref version found none so;
@@ -236,13 +261,13 @@ module _ (old new : Shared) (found : Given) (grows : length old.history ≤ leng
     where
       at : (u : Name) (c : Bool) → same_name u v ≡ c → undone_by u found + age_of old u ≤ age_of new u
       at u true e =
-          let age : age_of old v ≡ tree.snapshot = ap (began_on (length old.history)) there in
-          let low = goes v without 0 (omega (arith, age, began)) u e in
+          let age : age_of old v ≡ tree.snapshot = ap (began_on (length old.history)) there_was in
+          let low = goes v without 0 (omega (arith, age, low_was)) u e in
           let nothing = none u in omega (arith, low, nothing)
       at u false e = stays u (none u) (without u ∙ ap (λ b. cond b None (named u old.attempts)) e)
-  ages (undone v ref version is late without) = record {
+  ages (undone v ref version is late none left grown) = record {
     counts = λ u. at u (same_name u v) refl;
-    bounds = λ bound u. without-bound v without bound u;
+    bounds = λ bound u. bounded u (bound u) (left u);
     late = λ u other number so.
         let both : given.Aborted v ref version ≡ given.Aborted u other number = sym is ∙ so in
         let unit : v ≡ u = cc in
@@ -255,12 +280,17 @@ module _ (old new : Shared) (found : Given) (grows : length old.history ≤ leng
 
       at : (u : Name) (c : Bool) → same_name u v ≡ c → undone_by u found + age_of old u ≤ age_of new u
       at u true e =
-          let age : age_of old v ≡ late.tree.snapshot = ap (began_on (length old.history)) late.attempt in
+          let is_v = same_name-equal u v e in
+          let age : age_of old u ≡ late.tree.snapshot = ap (age_of old) is_v ∙ ap (began_on (length old.history)) late.attempt in
+          let now : age_of new u ≡ length new.history = ap (age_of new) is_v ∙ ap (began_on (length new.history)) none in
           let above = late.above in
           let within = late.within in
-          let low = goes v without 1 (omega (arith, age, above, within)) u e in
-          let one = counted u true e in omega (arith, low, one)
-      at u false e = stays u (counted u false e) (without u ∙ ap (λ b. cond b None (named u old.attempts)) e)
+          let one = counted u true e in omega (arith, age, now, above, within, grows, one)
+      at u false e = let no = counted u false e in let low = grown u in omega (arith, no, low)
+
+      bounded : (u : Name) → age_of old u ≤ length old.history → IsLeftOr (named u old.attempts) (named u new.attempts) → age_of new u ≤ length new.history
+      bounded u low (inl stay) = stays-bound u stay low
+      bounded u low (inr left_none) = subst (λ (o : Option Attempt). began_on (length new.history) o ≤ length new.history) (sym left_none) (le_refl (length new.history))
 
 -- ---- a task that takes a step first
 -- the attempt has moved on, and began where it did
@@ -296,27 +326,42 @@ module _ (old : Shared) (v : Name) (tree after : Attempt) (there : named v old.a
     late = λ u ref version so. same-late u version (a.late u ref version so);
   }
 
-module _ (old : Shared) (st : Stands old) (on_going : old.end ≡ None) (u : Name) (x : Unit) (task : Name) (tree : Attempt) (there : named u old.attempts ≡ Some tree) (found : Given) (new : Shared)
+module _ (old : Shared) (st : Stands old) (on_going : old.end ≡ None) (u : Name) (x : Unit) (unit_there : unit_at old.board u ≡ Some x) (task : Name) (tree : Attempt) (there : named u old.attempts ≡ Some tree) (found : Given) (new : Shared)
     (grows : length old.history ≤ length new.history) where
-  began : tree.snapshot ≤ length old.history
-  began = let under = st.attempts (ap is_going on_going) u tree there in under.within
-
   task-ages : (ended : Option TaskEnd) (machine : Option Evaluation) → machine_of tree task ≡ machine → TaskGives old u x task tree ended machine found new → Ages old found new
   task-ages None (Some machine) is r =
-      let same = r.step.stays.snapshot in
-      let low = began in
-      moved-ages old u tree r.after there same found new
-      (ages (record old { attempts = with_named old.attempts u r.after }) new found grows
-      (after-turn (record old { attempts = with_named old.attempts u r.after }) st.numbers u x r.after (named-here u r.after old.attempts) (omega (arith, same, low)) found new task r.went (missing (named task tree.tasks) refl) (end_at r.after) r.comes))
+      let a = ages base new found grows (after-turn base u x r.by.after tried found new task r.by.went (missing (named task tree.tasks) refl) (end_at r.by.after) comes) in
+      moved-ages old u tree r.by.after there r.by.step.stays.snapshot found new (record {
+        counts = a.counts;
+        bounds = a.bounds;
+        late = λ v ref version so. let late = a.late v ref version so in record { tree = late.tree; attempt = late.attempt; above = late.above; within = late.within };
+      })
     where
-      missing : (kept : Option Task) → named task tree.tasks ≡ kept → (ref : Name) → r.went ≡ stepped_as.NotInSnapshot ref → snapshot_of old.versions r.after.snapshot ref ≡ None
+      base : Shared
+      base = record old { attempts = with_named old.attempts u r.by.after; mails = r.mid.mails; board = r.mid.board }
+
+      p : IsPosting old r.mid
+      p = step-posting (end_at r.by.after) (named u old.aheads) old u tree.root (sends_in (done_by_root tree)) (sends_in r.by.more) r.mid r.posts
+
+      comes : AfterStep base u x task r.by.after r.by.went (end_at r.by.after) found new
+      comes = subst (λ (k : Shared). AfterStep (record k { attempts = with_named k.attempts u r.by.after }) u x task r.by.after r.by.went (end_at r.by.after) found new) (posting-rest old r.mid p) r.comes
+
+      tried : IsTried base u x r.by.after
+      tried = record {
+        stands = subst (λ (k : Shared). Stands (record k { attempts = with_named k.attempts u r.by.after })) (posting-rest old r.mid p) (posted-by old st (ap is_going on_going) u task tree there machine is r.by (end_at r.by.after) (named u old.aheads) r.mid r.posts);
+        going = ap is_going on_going;
+        there = posting-unit old r.mid p u ∙ unit_there;
+        attempt = named-here u r.by.after old.attempts;
+      }
+
+      missing : (kept : Option Task) → named task tree.tasks ≡ kept → (ref : Name) → r.by.went ≡ stepped_as.NotInSnapshot ref → snapshot_of old.versions r.by.after.snapshot ref ≡ None
       missing None none ref so = let no : None ≡ Some machine = sym (ap (option_and_then attempt.going) none) ∙ is in cc
       missing (Some kept) some ref so =
-          ap (λ n. snapshot_of old.versions n ref) r.step.stays.snapshot
-          ∙ missing-none (snapshot_of old.versions tree.snapshot) task r.moved (outer_of old.board (halt_of old.setup.program machine)) ref tree r.after kept some (halt_of old.setup.program machine)
-          (subst (λ w. IsStep (snapshot_of old.versions tree.snapshot) task r.moved (outer_of old.board (halt_of old.setup.program machine)) (halt_of old.setup.program machine) tree r.after w) so r.step)
+          ap (λ n. snapshot_of old.versions n ref) r.by.step.stays.snapshot
+          ∙ missing-none (snapshot_of old.versions tree.snapshot) task r.by.moved (outer_of old.board (halt_of old.setup.program machine)) ref tree r.by.after kept some (halt_of old.setup.program machine)
+          (subst (λ w. IsStep (snapshot_of old.versions tree.snapshot) task r.by.moved (outer_of old.board (halt_of old.setup.program machine)) (halt_of old.setup.program machine) tree r.by.after w) so r.by.step)
   task-ages None None is r = absurd r
-  task-ages (Some ended) machine is r = ages old new found grows (root-turn old st.numbers u x tree there began found new task ended r)
+  task-ages (Some ended) machine is r = ages old new found grows (root-turn old u x tree (record { stands = st; going = ap is_going on_going; there = unit_there; attempt = there }) found new task ended r)
 
 takes-turn : (old : Shared) (a : Name) (actor : _) (m : _) (rest : _) (behaviour : _) (full : Bool) (found : Given) (new : Shared) → TakesIfAllowed old a actor m rest behaviour full found new → Turnover old found new
 takes-turn old a actor m rest behaviour true found new r = ends-turn old _ _ found new r
@@ -334,7 +379,7 @@ gave-ages old new r found st g = on g (longer old new (gave-later old new r foun
     on : Gave old r found new → length old.history ≤ length new.history → Ages old found new
     on (gave.stale none is unclaimed) grows = ages old new found grows (same (none-by found _ is (λ w. refl)) (ap (λ (s : Shared). s.attempts) unclaimed.rest))
     on (gave.unit name live g) grows = ages old new found grows (unit-turn old name g.unit found new (next_of old.setup (unit_state g.unit)) g.gives)
-    on (gave.task name live g) grows = task-ages old st (going old r name live) g.owner g.unit name g.tree g.attempt found new grows (end_at g.tree) (machine_of g.tree name) refl g.gives
+    on (gave.task name live g) grows = task-ages old st (going old r name live) g.owner g.unit g.unit_there name g.tree g.attempt found new grows (end_at g.tree) (machine_of g.tree name) refl g.gives
     on (gave.lead name live g) grows = ages old new found grows (led-turn old found new (lead-led old name r.work found new g))
     on (gave.tentative name live g) grows = ages old new found grows (led-turn old found new (tentative-led old name found new g))
     on (gave.actor name live g) grows = ages old new found grows (takes-turn old name g.actor.state g.first g.rest g.can.behaviour (old.made == old.setup.limits.units) found new g.gives)

@@ -16,17 +16,20 @@ use Rattle.serial_model.specs.declared.request.Request.TheVariants as request
 use Rattle.serial_model.specs.State.{UnitState}
 use Rattle.shared_world.proofs.LeadsDo as led
 use Rattle.shared_world.proofs.LeadsDo.{IsLed}
+use Rattle.shared_world.proofs.Posting.{IsPosting, step-posting, posting-rest}
 use Rattle.shared_world.specs.declared.given.Given.{Given}
 use Rattle.shared_world.specs.declared.given.Given.TheVariants as given
 use Rattle.shared_world.specs.Later.{Appends, settled_by}
-use Rattle.shared_world.specs.rows.Attempts.{Aborts}
+use Rattle.shared_world.specs.rows.Undoing.{Aborts}
 use Rattle.shared_world.specs.rows.Pieces.{Ends, EndsBy, Settles}
+use Rattle.shared_world.specs.rows.Sending.{sends_in}
 use Rattle.shared_world.specs.rows.Tasks as tasks
 use Rattle.shared_world.specs.rows.Tasks.{AfterStep, Conflicts, EndGives, IsMarkedTask, Missing, RootGives, StepGives, TaskGives}
 use Rattle.shared_world.specs.rows.Turns.{TakesIfAllowed}
 use Rattle.shared_world.specs.rows.Units.{Becomes, Derefs, Finishes, ForksIfAllowed, Joins, Selves, Tries, UnitGives}
+use Rattle.shared_world.specs.Seen.{done_by_root}
 use Rattle.shared_world.specs.Shared.{Shared, actor_of, finished_at, ref_now}
-use Rattle.task_fork_join.specs.Attempt.{Attempt}
+use Rattle.task_fork_join.specs.Attempt.{Attempt, end_at}
 use Rattle.task_fork_join.specs.declared.stepped.Stepped.{Stepped}
 use Rattle.task_fork_join.specs.declared.stepped.Stepped.TheVariants as stepped
 use Rattle.task_fork_join.specs.declared.task_end.TaskEnd.{TaskEnd}
@@ -111,7 +114,7 @@ module _ (old : Shared) where
   module _ (base : Shared) (setup : base.setup ≡ old.setup) (history : base.history ≡ old.history) where
     aborts : (u : Name) (x : Unit) (tree : Attempt) (ref : Name) (version : ℕ) (found : Given) (new : Shared) → Aborts base u x tree ref version found new → Appends (settled_by found) old new
     aborts u x tree ref version found new row =
-        stays old new found (ap settled_by row.found_is) (ap (λ (s : Shared). s.setup) row.others ∙ setup) (ap (λ (s : Shared). s.history) row.others ∙ history)
+        stays old new found (ap settled_by row.found_is) (ap (λ (s : Shared). s.setup) row.undoes.others ∙ setup) (ap (λ (s : Shared). s.history) row.undoes.others ∙ history)
 
     marked : (task : Name) (found : Given) (mid new : Shared) → settled_by found ≡ [] → mid.setup ≡ base.setup → mid.history ≡ base.history → new ≡ record mid { board = new.board } → Appends (settled_by found) old new
     marked task found mid new none same-setup same-history others =
@@ -146,7 +149,11 @@ module _ (old : Shared) where
 
   pub task-gives : (u : Name) (x : Unit) (task : Name) (tree : Attempt) (ended : Option TaskEnd) (machine : Option Evaluation) (found : Given) (new : Shared) → TaskGives old u x task tree ended machine found new
       → Appends (settled_by found) old new
-  task-gives u x task tree None (Some machine) found new row = after-step _ refl refl u x task row.after row.went _ found new row.comes
+  task-gives u x task tree None (Some machine) found new row =
+      after-step (record row.mid { attempts = with_named row.mid.attempts u row.by.after }) (ap (λ (s : Shared). s.setup) (posting-rest old row.mid p)) (ap (λ (s : Shared). s.history) (posting-rest old row.mid p)) u x task row.by.after row.by.went (end_at row.by.after) found new row.comes
+    where
+      p : IsPosting old row.mid
+      p = step-posting (end_at row.by.after) (named u old.aheads) old u tree.root (sends_in (done_by_root tree)) (sends_in row.by.more) row.mid row.posts
   task-gives u x task tree None None found new row = absurd row
   task-gives u x task tree (Some ended) machine found new row = root-gives old refl refl u x task tree ended found new row
 

@@ -78,7 +78,6 @@ module _ (old : Shared) (st : Stands old) (u : Name) (x : Unit) (on_going : old.
     attempts = λ go v tree there. way v tree (same_name v u) refl (sym (named-with_named v u r.tree old.attempts) ∙ there);
     numbers = st.numbers;
     aheads = λ v h leads. ahead-still old.board new.board v h (same v) (st.aheads v h leads);
-    sent = st.sent;
   })
     where
       going : is_going old.end ≡ true

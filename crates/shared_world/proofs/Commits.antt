@@ -1,9 +1,9 @@
 -- An attempt whose root is at its end keeps what is kept standing: it commits, or ends the run.
-use Rattle.std.proofs.Common.{◌≡◌, ◌∙◌, ◌≤◌, ℕ, suc, Bool, true, false, cond, length, length-append, List, [], ◌∷◌, ◌++◌, inr, refl, sym, ap, ap₂, subst, arith}
+use Rattle.std.proofs.Common.{◌≡◌, ◌∙◌, ◌≤◌, ℕ, suc, Bool, true, false, cond, drop, length, length-append, List, [], ◌∷◌, ◌++◌, inr, refl, sym, ap, ap₂, subst, arith}
 use Rattle.std.specs.Option.{option_and_then, option_map, option_or}
 use Rattle.std.specs.Prelude.{Option, None, Some, All, Contains, IfSome, map}
 use Rattle.actor_mailbox.specs.declared.message.Message.{Message}
-use Rattle.actor_mailbox.specs.Messages.{passes}
+use Rattle.actor_mailbox.specs.Messages.{settle, settle_one}
 use Rattle.actor_mails.specs.Mails.{mail_at}
 use Rattle.ref_store.proofs.StoreLaws.{above_committed, above_pruned, read_below}
 use Rattle.ref_store.specs.declared.version.Version.{Version}
@@ -15,7 +15,6 @@ use Rattle.serial_model.specs.declared.end.End.TheVariants as ending
 use Rattle.serial_model.specs.declared.entry.Entry.TheVariants.{Run}
 use Rattle.serial_model.specs.declared.halt.Halt.TheVariants as halt
 use Rattle.serial_model.specs.declared.request.Request.TheVariants as request
-use Rattle.serial_model.specs.Sends.{effects_to}
 use Rattle.serial_model.specs.Standing.{Agrees, Start}
 use Rattle.serial_model.specs.State.{UnitState}
 use Rattle.serial_model.specs.Step.{answered, next_made, next_of, with_made}
@@ -27,18 +26,16 @@ use Rattle.shared_world.proofs.Gone.{SeenAs, go-actors, go-machines, go-same, no
 use Rattle.shared_world.proofs.Lists.{among-contains, named-among, names_of, none-there, over-read, values-all, values-so, values_of}
 use Rattle.shared_world.proofs.Leading.{finished-is-level, leads-apart, level-there, live_on, seen-here, seen-same, ahead-still}
 use Rattle.shared_world.proofs.Live.{state-there}
-use Rattle.shared_world.proofs.OfTurns.{all-of, line-of, map-of}
-use Rattle.shared_world.proofs.Sent.{mail-settles}
+use Rattle.shared_world.proofs.Posted.{kept-seen, kept-so}
 use Rattle.shared_world.proofs.Standing.{Grows, ref-committed, root-in, under-way}
 use Rattle.shared_world.proofs.States.{machines-same, same-pieces}
-use Rattle.shared_world.proofs.Unsettled.{AreApart, all-settled, none-hang, only-name}
 use Rattle.shared_world.specs.declared.given.Given.{Given}
 use Rattle.shared_world.specs.rows.Actors.{spawned}
-use Rattle.shared_world.specs.rows.Attempts.{Commits}
+use Rattle.shared_world.specs.rows.Commits.{Commits}
 use Rattle.shared_world.specs.rows.Pieces.{Ends}
 use Rattle.shared_world.specs.rows.Tasks.{EndGives}
-use Rattle.shared_world.specs.Seen.{done_in}
-use Rattle.shared_world.specs.Sent.{AreOfTurns, AreSent}
+use Rattle.shared_world.specs.rows.Unsettled.{kept_to}
+use Rattle.shared_world.specs.Seen.{done_in, one_or_none}
 use Rattle.shared_world.specs.Shared.{Shared, finished_at, is_going, ref_now, state_at, unit_state}
 use Rattle.shared_world.specs.Stands.{IsMachine, IsUnderWay, Stands, start_of}
 use Rattle.task_fork_join.proofs.Ends.{ends_are_of_transactions}
@@ -60,7 +57,7 @@ use Rattle.value_core.specs.declared.value.Value.{Value}
 use Rattle.value_core.specs.Named.{Name, Named, Rises, is_among, named, same_name}
 use Rattle.value_core.specs.Place.{Spot}
 use Rattle.world_model.proofs.Kept.{gave-keeps}
-use Rattle.world_model.proofs.lists.Lists.{each-left, each-right, settle-others}
+use Rattle.world_model.proofs.lists.Lists.{map-append, settle-tentative}
 use Rattle.world_model.specs.Gave as row
 use Rattle.world_model.specs.IsWorld.{IsWorld}
 use Rattle.world_model.specs.rows.Attempts.{Learns, learned, with_attempt}
@@ -69,8 +66,8 @@ use Rattle.world_model.specs.rows.Endings as end_row
 use Rattle.world_model.specs.rows.Endings.{EndsRun, ended_by}
 use Rattle.world_model.specs.StandsFor.{AttemptStands, IsAttempt, IsEnd}
 use Rattle.world_model.specs.World as world
-use Rattle.world_model.specs.World.{AttemptEnd, LiveUnit, World, line, still, with_at}
-use Rattle.world_model.specs.Message.{settled, unsettled}
+use Rattle.world_model.specs.World.{AttemptEnd, LiveUnit, World, attempt_sends, held_sends, line, still, with_at}
+use Rattle.world_model.specs.Message.{settled, tentative, unsettled}
 use Rattle.serial_model.specs.Log.{Log}
 use Rattle.unit_table.specs.Piece.{unit_in}
 
@@ -148,17 +145,6 @@ module _ (old : Shared) (st : Stands old) (on_going : old.end ≡ None) (u : Nam
 
   made : IsMade st.is_world.state
   made = (replay-sounder old.setup st.formed w.history st.is_world.state st.is_world.replays).sound.made
-
-  -- no message depends on the attempt
-  apart-line : (a : Name) → AreApart (same_name tried.root) (line w a)
-  apart-line a = none-hang old.setup w st.is_world.state st.is_world.stands made u tried seen.there (line-of old st) (same_name tried.root) (only-name tried.root) a
-
-  apart-mail : (a : Name) → AreApart (same_name tried.root) (mail_at old.mails a)
-  apart-mail a = subst (AreApart (same_name tried.root)) (st.seen.mails a) (each-right (λ (m : Message). passes (same_name tried.root) m.depends ≡ false) (w.taken a) (w.mails a) (apart-line a))
-
-  -- none of the unit is unsettled
-  settled-line : (a : Name) → unsettled u (line w a) ≡ []
-  settled-line = all-settled old.setup w st.is_world.state st.is_world.stands made u tried seen.there (line-of old st) unit live
 
   root_task : (t : Task) × (named tree.root tree.tasks ≡ Some t)
   root_task = root-in old u tree way
@@ -256,7 +242,6 @@ module _ (old : Shared) (st : Stands old) (on_going : old.end ≡ None) (u : Nam
     attempts = λ g v t is. cc;
     numbers = λ q k d in_range. let long = length-append old.history (Run u ∷ []) in let below = st.numbers q k d in_range in omega (arith, long, below);
     aheads = λ k h leads. ahead-still old.board new.board k h (same-pieces old.board new.board r.pieces k) (st.aheads k h leads);
-    sent = st.sent;
   })
 
   -- the attempt commits
@@ -268,7 +253,7 @@ module _ (old : Shared) (st : Stands old) (on_going : old.end ≡ None) (u : Nam
     rises = r.done.rises
 
     abbrev after : Shared
-    after = record old { history = old.history ++ Run u ∷ []; versions = new.versions; attempts = new.attempts; bytes = old.bytes ++ effects_bytes r.log.log.effects; board = new.board; mails = new.mails }
+    after = record old { history = old.history ++ Run u ∷ []; versions = new.versions; attempts = new.attempts; bytes = old.bytes ++ effects_bytes r.log.log.effects; board = new.board; mails = new.mails; taken = new.taken }
 
     abbrev w3 : World
     w3 = committed_world w2 u (still unit) tried2 result v
@@ -291,7 +276,7 @@ module _ (old : Shared) (st : Stands old) (on_going : old.end ≡ None) (u : Nam
     unit_after = answered (with_made (effects_unit r.log.log.effects unit)) v
 
     states : (q : Name) → state_at new.board q ≡ cond (same_name q u) (Some unit_after) (state_at old.board q)
-    states = act-states r.log.log.effects old new r.board r.acts u x unit_there unit_after (go-same u x r.unit tree old.board r.board unit_there r.goes.tasks unit_after r.stands.state)
+    states = act-states r.log.log.effects u tree old new r.board r.acts x unit_there unit_after (go-same u x r.unit tree old.board r.board unit_there r.goes.tasks unit_after r.stands.state)
 
     units : (q : Name) → w3.units q ≡ live_on old st new.board q
     units q = on (same_name q u) refl (states q)
@@ -305,20 +290,25 @@ module _ (old : Shared) (st : Stands old) (on_going : old.end ≡ None) (u : Nam
     actors a =
         spawned-over tried.effects w2.actors a
         ∙ ap₂ (λ es below. option_or (spawned es a) below) all_effects (st.seen.actors a)
-        ∙ sym (act-actors r.log.log.effects old new r.board r.acts (go-actors u x r.unit tree old.board r.board unit_there r.goes.tasks) a)
+        ∙ sym (act-actors r.log.log.effects u tree old new r.board r.acts (go-actors u x r.unit tree old.board r.board unit_there r.goes.tasks) a)
 
-    -- what is sent is settled
+    abbrev test : Name → Bool
+    test = same_name tree.root
+
+    -- what was put is settled in its place, and what was kept comes last
     mails : (a : Name) → w3.mails a ≡ mail_at new.mails a
     mails a =
-        mail-settles w2 u unit tried2 a (mail_at old.mails a) live over.attempt (settled-line a) (apart-mail a) (st.seen.mails a)
-        ∙ ap (λ es. mail_at old.mails a ++ map (settled u) (effects_to a es)) all_effects
-        ∙ sym (r.mails a)
+        ap₂ (λ n ms. settle (same_name n) (w.mails a ++ ms)) seen.is.root
+        (ap (λ found. drop (length (unsettled u (line w a))) (held_sends u a (w.units u) ++ attempt_sends u a found)) (ap (λ c. cond c (Some tried2) (w.attempts u)) (same_name-itself u)) ∙ kept-seen old st u unit tree tried2 level live seen.is.root seen.is.effects a)
+        ∙ ap (λ ms. settle test (ms ++ kept_to old u tree a)) (st.seen.mails a)
+        ∙ sym (r.sends.mails a)
 
-    sent : AreSent old.taken new.mails
-    sent = record {
-      taken_so = st.sent.taken_so;
-      mail_so = λ a. subst AreOfTurns (sym (r.mails a)) (all-of (mail_at old.mails a) (map (settled u) (effects_to a r.log.log.effects)) (st.sent.mail_so a) (map-of u (effects_to a r.log.log.effects)));
-    }
+    taken : (a : Name) → w3.taken a ≡ one_or_none (named a new.taken)
+    taken a = ap₂ (λ n ms. settle (same_name n) ms) seen.is.root (st.seen.taken a) ∙ one (named a old.taken) ∙ sym (ap one_or_none (r.sends.taken a))
+      where
+        one : (o : Option Message) → settle test (one_or_none o) ≡ one_or_none (option_map (settle_one test) o)
+        one None = refl
+        one (Some m) = refl
 
     others : (k : Name) → (k ≡ u → ⊥) → with_at w2.attempts u None k ≡ w.attempts k
     others k other = on (same_name k u) refl
@@ -363,20 +353,19 @@ module _ (old : Shared) (st : Stands old) (on_going : old.end ≡ None) (u : Nam
         refs = refs;
         units = units;
         actors = actors;
-        taken = λ a. settle-others (same_name tried.root) (w.taken a) (each-left (λ (m : Message). passes (same_name tried.root) m.depends ≡ false) (w.taken a) (w.mails a) (apart-line a)) ∙ st.seen.taken a;
+        taken = taken;
         mails = mails;
         attempts = λ g k. seen-stay old st going u new.attempts r.goes.attempts versions new.versions before r.versions (λ q. with_at w2.attempts u None q) others (ap (λ c. cond c None (w2.attempts u)) (same_name-itself u)) k;
         bytes = ap (λ b. b ++ effects_bytes tried.effects) st.seen.bytes ∙ ap (λ es. old.bytes ++ effects_bytes es) all_effects;
         made = st.seen.made;
         end = st.seen.end;
       };
-      machines = act-machines r.log.log.effects old new r.board r.acts (IsMachine old.setup) (go-machines (IsMachine old.setup) u r.unit tree old.board r.board r.stands.machine r.goes.tasks st.machines);
+      machines = act-machines r.log.log.effects u tree old new r.board r.acts (IsMachine old.setup) (go-machines (IsMachine old.setup) u r.unit tree old.board r.board r.stands.machine r.goes.tasks st.machines);
       attempts = λ g k t is.
           let stay = stayed old st going u new.attempts r.goes.attempts k t is in
           under-way old after k t refl (apart k stay.0) (λ q. reads-stay old st going u new.attempts r.goes.attempts versions new.versions r.versions k t is q ∙ before k t is q) grows longer (st.attempts going k t stay.1);
       numbers = above_pruned r.versions.live versions new.versions r.versions.pruned (suc (length (old.history ++ Run u ∷ []))) above;
       aheads = λ k h leads. ahead-still old.board new.board k h (apart k (leads-apart old st u level k h leads)) (st.aheads k h leads);
-      sent = sent;
     })
 
 -- what a valid attempt comes to

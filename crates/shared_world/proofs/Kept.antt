@@ -1,5 +1,5 @@
 -- What a result comes to keeps what is kept standing.
-use Rattle.std.proofs.Common.{◌≡◌, List, refl, sym, ap, subst}
+use Rattle.std.proofs.Common.{◌≡◌, ◌∙◌, List, refl, sym, ap, subst}
 use Rattle.std.specs.Prelude.{Option, None, Some}
 use Rattle.core_syntax.specs.declared.node_id.NodeId.{NodeId}
 use Rattle.eval_step.specs.Evaluation.{Evaluation}
@@ -11,23 +11,28 @@ use Rattle.serial_model.specs.declared.request.Request.TheVariants as request
 use Rattle.serial_model.specs.Step.{next_made, next_of}
 use Rattle.shared_world.proofs.Begins.{begins}
 use Rattle.shared_world.proofs.Commits.{end-keeps}
-use Rattle.shared_world.proofs.Gone.{aborted}
 use Rattle.shared_world.proofs.LeadsBegin.{begun-keeps}
 use Rattle.shared_world.proofs.LeadsKeep.{lead-keeps}
 use Rattle.shared_world.proofs.Live.{going, no-unit, state-there, unfinished}
 use Rattle.shared_world.proofs.ActorPieces.{actor_of_piece, same-pieces-actors}
 use Rattle.shared_world.proofs.Standing.{same-states}
 use Rattle.shared_world.proofs.States.{machines-same, same-pieces}
-use Rattle.shared_world.proofs.Steps.{NeitherAt, forked-task, marked-task, stepped}
+use Rattle.shared_world.proofs.Sending.{posted-by}
+use Rattle.shared_world.proofs.Posting.{IsPosting, step-posting, posting-rest, posting-unit}
+use Rattle.shared_world.proofs.Steps.{NeitherAt, forked-task, marked-task}
 use Rattle.shared_world.proofs.Turns.{actor-gave}
+use Rattle.shared_world.proofs.Undoes.{undoes-keeps}
 use Rattle.shared_world.proofs.Units.{IsHere, unit-keeps}
 use Rattle.shared_world.specs.declared.given.Given.{Given}
 use Rattle.shared_world.specs.Gave as gave
 use Rattle.shared_world.specs.Gave.{Gave, GaveTask, GaveUnit, IsUnclaimed}
+use Rattle.shared_world.specs.Laws.{IsTried}
 use Rattle.shared_world.specs.Returned.{IsLive, Returned}
+use Rattle.shared_world.specs.rows.Sending.{sends_in}
 use Rattle.shared_world.specs.rows.Tasks as row
 use Rattle.shared_world.specs.rows.Tasks.{AfterStep, Missing, RootGives, StepGives, TaskGives}
 use Rattle.shared_world.specs.rows.Units.{Tries}
+use Rattle.shared_world.specs.Seen.{done_by_root}
 use Rattle.shared_world.specs.Shared.{Shared, is_going, state_at, unit_state}
 use Rattle.shared_world.specs.Stands.{IsMachine, Stands}
 use Rattle.task_fork_join.specs.Attempt.{Attempt, end_at, machine_of}
@@ -64,14 +69,17 @@ unit-gave old st on_going u not_done found new g = unit-keeps old st u g.unit he
 
 -- what an attempt comes to whose root is at its end
 module _ (old : Shared) (st : Stands old) (on_going : old.end ≡ None) (u : Name) (x : Unit) (tree : Attempt) (unit_there : unit_at old.board u ≡ Some x) (there : named u old.attempts ≡ Some tree) where
+  tried : IsTried old u x tree
+  tried = record { stands = st; going = ap is_going on_going; there = unit_there; attempt = there }
+
   root-keeps : (task : Name) → NeitherAt old.board task → (ended : TaskEnd) → end_at tree ≡ Some ended → (found : Given) (new : Shared) → RootGives old u x task tree ended found new → Stands new
   root-keeps task none ended is found new (row.valid level unchanged gives) = end-keeps old st on_going u x tree unit_there there level unchanged ended is found new gives
-  root-keeps task none ended is found new (row.conflicts level c) = aborted old st (ap is_going on_going) u x tree unit_there there c.ref c.conflict.version found new c.aborts
+  root-keeps task none ended is found new (row.conflicts level c) = undoes-keeps old new u x tree tried c.aborts.undoes
   root-keeps task none ended is found new (row.waits r) = marked-task old st task (mark.Waiting (wait.Definite u)) new none r.marked
 
   missing-keeps : (task : Name) → NeitherAt old.board task → (ref : Name) (version : Option Version) (found : Given) (new : Shared) → Missing old u x task tree ref version found new → Stands new
   missing-keeps task none ref None found new r = marked-task old st task (mark.Waiting (wait.Definite u)) new none r.marked
-  missing-keeps task none ref (Some version) found new r = aborted old st (ap is_going on_going) u x tree unit_there there ref version.number found new r
+  missing-keeps task none ref (Some version) found new r = undoes-keeps old new u x tree tried r.undoes
 
   step-keeps : (task : Name) → NeitherAt old.board task → (went : Stepped) (found : Given) (new : Shared) → StepGives old u x task tree went found new → Stands new
   step-keeps task none stepped_as.Now found new r = marked-task old st task (mark.Ready work.Eval) new none r.1
@@ -88,9 +96,12 @@ module _ (old : Shared) (st : Stands old) (on_going : old.end ≡ None) (u : Nam
 task-keeps : (old : Shared) → Stands old → old.end ≡ None → (u : Name) (x : Unit) (task : Name) (tree : Attempt) → unit_at old.board u ≡ Some x → named u old.attempts ≡ Some tree → NeitherAt old.board task
     → (ended : Option TaskEnd) (machine : Option Evaluation) → end_at tree ≡ ended → machine_of tree task ≡ machine → (found : Given) (new : Shared) → TaskGives old u x task tree ended machine found new → Stands new
 task-keeps old st on_going u x task tree unit_there there none None (Some machine) unended is found new r =
-    after-keeps (record old { attempts = with_named old.attempts u r.after })
-    (stepped old st (ap is_going on_going) u task tree there machine r.moved is r.same r.of r.after r.went r.step)
-    on_going u x r.after unit_there (named-here u r.after old.attempts) task none r.went (end_at r.after) refl found new r.comes
+    after-keeps (record r.mid { attempts = with_named r.mid.attempts u r.by.after })
+    (posted-by old st (ap is_going on_going) u task tree there machine is r.by (end_at r.by.after) (named u old.aheads) r.mid r.posts)
+    (ap (λ (s : Shared). s.end) (posting-rest old r.mid p) ∙ on_going) u x r.by.after (posting-unit old r.mid p u ∙ unit_there) (named-here u r.by.after r.mid.attempts) task (p.states task ∙ none.0, p.actors task ∙ none.1) r.by.went (end_at r.by.after) refl found new r.comes
+  where
+    p : IsPosting old r.mid
+    p = step-posting (end_at r.by.after) (named u old.aheads) old u tree.root (sends_in (done_by_root tree)) (sends_in r.by.more) r.mid r.posts
 task-keeps old st on_going u x task tree unit_there there none None None unended is found new r = absurd r
 task-keeps old st on_going u x task tree unit_there there none (Some ended) machine unended is found new r = root-keeps old st on_going u x tree unit_there there task none ended unended found new r
 

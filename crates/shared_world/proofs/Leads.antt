@@ -19,8 +19,6 @@ use Rattle.shared_world.proofs.Lefts.{after-finished, after-longer, left-still, 
 use Rattle.shared_world.proofs.Live.{state-there}
 use Rattle.shared_world.proofs.Standing.{Grows, stands-next}
 use Rattle.shared_world.proofs.States.{EachMachine, SameStates, machines-put, machines-same, roused-is, roused-state, same-pieces, states-put, unit-put}
-use Rattle.shared_world.proofs.OfTurns.{last-of, own-of, sent-mailed, sent-same}
-use Rattle.shared_world.specs.Sent.{AreSent}
 use Rattle.shared_world.specs.Ahead.{Ahead}
 use Rattle.shared_world.specs.declared.given.Given.{Given}
 use Rattle.shared_world.specs.rows.Leading as lead
@@ -191,7 +189,6 @@ module _ (old : Shared) (st : Stands old) (on_going : old.end ≡ None) (u : Nam
     reads = λ v tree is k. refl;
     numbers = st.numbers;
     aheads = aheads-so r.unit old.board new.board r.put (λ n. refl) new.aheads (Some (record h { waits = true })) r.aheads own;
-    sent = st.sent;
   }))
     where
       here : state_at new.board u ≡ Some unit
@@ -211,7 +208,7 @@ module _ (old : Shared) (st : Stands old) (on_going : old.end ≡ None) (u : Nam
   -- ---- Held: the turn has its answer, and the mailboxes are those of the base
   module _ (r : Request) (at : Spot) (asks : next_of old.setup unit ≡ halt.Ask r at) (base : Shared) (base_is : base ≡ record old { mails = base.mails; board = base.board })
       (same : SameStates old.board base.board) (same_actors : SameActors old.board base.board) (machines : EachMachine (IsMachine old.setup) base.board)
-      (mails : (b : Name) → mails_held w u r b ≡ mail_at base.mails b) (sent : AreSent old.taken base.mails) where
+      (mails : (b : Name) → mails_held w u r b ≡ mail_at base.mails b) where
     abbrev more : Ahead → Ahead
     more k = record k { held = k.held ++ r ∷ []; waits = false }
 
@@ -243,7 +240,6 @@ module _ (old : Shared) (st : Stands old) (on_going : old.end ≡ None) (u : Nam
           reads = λ v tree is k. refl;
           numbers = st.numbers;
           aheads = aheads-so g.unit base.board new.board g.put same new.aheads (Some (more h)) changed own;
-          sent = sent;
         }))
       where
         none : (tree : Attempt) → named u old.attempts ≡ Some tree → ⊥
@@ -309,7 +305,7 @@ module _ (old : Shared) (st : Stands old) (on_going : old.end ≡ None) (u : Nam
             (actors-put to (roused_unless begun (piece_at old.board to)) old.board g.board (roused-same begun (piece_at old.board to)) rouses)
             (machines-put (IsMachine old.setup) to (roused_unless begun (piece_at old.board to)) old.board g.board (λ z e. st.machines to z (sym (roused-is begun (piece_at old.board to)) ∙ e)) rouses st.machines)
             (λ b. held-at b ∙ ap₂ (λ f ms. put_at f ms b) actor_there none_kept ∙ here b (same_name b to) refl)
-            (sent-mailed old.taken to (mail_at old.mails to ++ message ∷ []) old.mails g.mails mailed (last-of (mail_at old.mails to) message (st.sent.mail_so to) (own-of u args)) st.sent) found new g.holds
+            found new g.holds
           where
             begun : Bool
             begun = is_some (named to old.taken)
@@ -319,7 +315,7 @@ module _ (old : Shared) (st : Stands old) (on_going : old.end ≡ None) (u : Nam
             here b false e = st.seen.mails b ∙ sym (mailed.others b (not-same b to e))
         by (lead.keep why same pieces) =
             holds-on (request.Send to args) at asks base refl (same-pieces old.board g.board pieces) (same-pieces-actors old.board g.board pieces) (machines-same (IsMachine old.setup) old.board g.board pieces st.machines)
-            (λ b. held-at b ∙ kept-all b why ∙ st.seen.mails b ∙ sym (same b)) (sent-same old.taken old.mails g.mails same st.sent) found new g.holds
+            (λ b. held-at b ∙ kept-all b why ∙ st.seen.mails b ∙ sym (same b)) found new g.holds
           where
             kept-all : (b : Name) → (actor_at old.board to ≡ None) ⊎ (kept_of_turn old u h to ≡ [] → ⊥) → put_at (actor_at old.board to) (kept_of_turn old u h to) b ≡ w.mails b
             kept-all b (inl gone) = ap (λ f. put_at f (kept_of_turn old u h to) b) gone
@@ -333,16 +329,16 @@ module _ (old : Shared) (st : Stands old) (on_going : old.end ≡ None) (u : Nam
   -- what the turn holds
   pub lead-holds : (r : Request) (at : Spot) → next_of old.setup unit ≡ halt.Ask r at → (found : Given) (new : Shared) → LeadHolds old u x h r found new → Stands new
   lead-holds (request.Send to args) at asks found new g = sends-ahead to args at asks found new g
-  lead-holds (request.Print text) at asks found new g = holds-on (request.Print text) at asks old refl (λ q. refl) (λ a. refl) st.machines st.seen.mails st.sent found new g
-  lead-holds (request.NewRef v) at asks found new g = holds-on (request.NewRef v) at asks old refl (λ q. refl) (λ a. refl) st.machines st.seen.mails st.sent found new g
-  lead-holds (request.Deref ref) at asks found new g = holds-on (request.Deref ref) at asks old refl (λ q. refl) (λ a. refl) st.machines st.seen.mails st.sent found new g
-  lead-holds (request.RefSet ref v) at asks found new g = holds-on (request.RefSet ref v) at asks old refl (λ q. refl) (λ a. refl) st.machines st.seen.mails st.sent found new g
-  lead-holds (request.Fork body values) at asks found new g = holds-on (request.Fork body values) at asks old refl (λ q. refl) (λ a. refl) st.machines st.seen.mails st.sent found new g
-  lead-holds (request.Join future) at asks found new g = holds-on (request.Join future) at asks old refl (λ q. refl) (λ a. refl) st.machines st.seen.mails st.sent found new g
-  lead-holds (request.Dosync body values) at asks found new g = holds-on (request.Dosync body values) at asks old refl (λ q. refl) (λ a. refl) st.machines st.seen.mails st.sent found new g
-  lead-holds (request.Spawn behaviour state) at asks found new g = holds-on (request.Spawn behaviour state) at asks old refl (λ q. refl) (λ a. refl) st.machines st.seen.mails st.sent found new g
-  lead-holds (request.Become behaviour state) at asks found new g = holds-on (request.Become behaviour state) at asks old refl (λ q. refl) (λ a. refl) st.machines st.seen.mails st.sent found new g
-  lead-holds request.SelfActor at asks found new g = holds-on request.SelfActor at asks old refl (λ q. refl) (λ a. refl) st.machines st.seen.mails st.sent found new g
+  lead-holds (request.Print text) at asks found new g = holds-on (request.Print text) at asks old refl (λ q. refl) (λ a. refl) st.machines st.seen.mails found new g
+  lead-holds (request.NewRef v) at asks found new g = holds-on (request.NewRef v) at asks old refl (λ q. refl) (λ a. refl) st.machines st.seen.mails found new g
+  lead-holds (request.Deref ref) at asks found new g = holds-on (request.Deref ref) at asks old refl (λ q. refl) (λ a. refl) st.machines st.seen.mails found new g
+  lead-holds (request.RefSet ref v) at asks found new g = holds-on (request.RefSet ref v) at asks old refl (λ q. refl) (λ a. refl) st.machines st.seen.mails found new g
+  lead-holds (request.Fork body values) at asks found new g = holds-on (request.Fork body values) at asks old refl (λ q. refl) (λ a. refl) st.machines st.seen.mails found new g
+  lead-holds (request.Join future) at asks found new g = holds-on (request.Join future) at asks old refl (λ q. refl) (λ a. refl) st.machines st.seen.mails found new g
+  lead-holds (request.Dosync body values) at asks found new g = holds-on (request.Dosync body values) at asks old refl (λ q. refl) (λ a. refl) st.machines st.seen.mails found new g
+  lead-holds (request.Spawn behaviour state) at asks found new g = holds-on (request.Spawn behaviour state) at asks old refl (λ q. refl) (λ a. refl) st.machines st.seen.mails found new g
+  lead-holds (request.Become behaviour state) at asks found new g = holds-on (request.Become behaviour state) at asks old refl (λ q. refl) (λ a. refl) st.machines st.seen.mails found new g
+  lead-holds request.SelfActor at asks found new g = holds-on request.SelfActor at asks old refl (λ q. refl) (λ a. refl) st.machines st.seen.mails found new g
 
   -- ---- Settled: the entry is appended to what the base is, and the turn stands where it did
   -- what the base has beside what was there
@@ -369,7 +365,6 @@ module _ (old : Shared) (st : Stands old) (on_going : old.end ≡ None) (u : Nam
     pub end_is : w2.end ≡ base.end
     pub within : (k : Ahead) → leads_on left ≡ Some k → k.answers ≤ length unit.answers
     pub holds : (k : Ahead) → leads_on left ≡ Some k → is_ahead (live_with (Some k) unit) ≡ true
-    pub sent : AreSent base.taken base.mails
 
   module _ (base : Shared) (entry : Entry) (left : Ahead) (w2 : World) (is : IsBase base entry left w2) (found : Given) (new : Shared) (g : LeadSettles base u x left entry found new) where
     state-so : (q : Name) → state_at new.board q ≡ state_at base.board q
@@ -459,5 +454,4 @@ module _ (old : Shared) (st : Stands old) (on_going : old.end ≡ None) (u : Nam
       reads = is.reads;
       numbers = λ r k d in_range. let long = length-append base.history (entry ∷ []) in let same = ap length is.history in let below = is.numbers r k d in_range in omega (arith, long, same, below);
       aheads = aheads-there;
-      sent = is.sent;
     }))

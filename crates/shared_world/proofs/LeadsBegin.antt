@@ -11,8 +11,6 @@ use Rattle.shared_world.proofs.Live.{no-piece}
 use Rattle.shared_world.proofs.Standing.{stands-next}
 use Rattle.shared_world.proofs.States.{SameStates, machines-put, states-put, unit-put}
 use Rattle.actor_mailbox.specs.declared.message.Message.{Message}
-use Rattle.shared_world.proofs.OfTurns.{sent-mailed, sent-taken}
-use Rattle.shared_world.specs.Sent.{AreOfTurns, IsOfTurn}
 use Rattle.shared_world.specs.Ahead.{Ahead}
 use Rattle.shared_world.specs.declared.given.Given.{Given}
 use Rattle.shared_world.specs.rows.Leading.{GaveTentative, begun_by}
@@ -116,16 +114,8 @@ module _ (old : Shared) (st : Stands old) (on_going : old.end ≡ None) (a : Nam
     reads = λ v tree at q. refl;
     numbers = st.numbers;
     aheads = λ v k at. aheads v k (same_name v turn) refl (sym (g.takes.aheads v) ∙ at);
-    sent = sent-taken a (Some g.first) old.taken new.taken new.mails g.takes.taken first (sent-mailed old.taken a g.rest old.mails new.mails g.takes.mailed front.1 st.sent);
   }))
     where
-      -- the message that is taken, and the rest of the mail
-      front : AreOfTurns (g.first ∷ g.rest)
-      front = subst AreOfTurns g.mail (st.sent.mail_so a)
-
-      first : (m : Message) → Some g.first ≡ Some m → IsOfTurn m
-      first m e = let same : g.first ≡ m = cc in subst IsOfTurn same front.0
-
       units : (q : Name) (c : Bool) → named q new.aheads ≡ cond c (Some (begun_by a)) (named q old.aheads) → state_at new.board q ≡ cond c (Some begun) (state_at old.board q)
           → cond c (Some (live_turn a actor g.behaviour g.first)) (w.units q) ≡ option_map (live_with (named q new.aheads)) (state_at new.board q)
       units q true is so = sym (ap₂ (λ k state. option_map (live_with k) state) is so)

@@ -22,8 +22,6 @@ use Rattle.shared_world.proofs.Lefts.{IsFirstHeld, first-held}
 use Rattle.shared_world.proofs.Live.{no-piece}
 use Rattle.shared_world.proofs.Standing.{above-next, ended, one-version}
 use Rattle.shared_world.proofs.States.{EachMachine, SameStates, machines-put, roused-is, roused-state, states-put, unit-put}
-use Rattle.shared_world.proofs.OfTurns.{definite-of, sent-mailed, sent-taken, settle-of, settled-of}
-use Rattle.shared_world.specs.Sent.{AreSent, IsOfTurn}
 use Rattle.shared_world.specs.Ahead.{Ahead}
 use Rattle.shared_world.specs.declared.given.Given.{Given}
 use Rattle.shared_world.specs.rows.Pieces.{Ends}
@@ -79,13 +77,13 @@ same-unit lent (Some (piece.Unit x)) = ap (λ o. Some (record (unit_state x) { f
 same-unit lent (Some (piece.Task m)) = refl
 same-unit lent (Some (piece.Actor a)) = refl
 
-same-actor : (lent : Bool) (found : Option Piece) → actor_of_piece (option_map (settles_now lent) found) ≡ actor_of_piece found
+pub same-actor : (lent : Bool) (found : Option Piece) → actor_of_piece (option_map (settles_now lent) found) ≡ actor_of_piece found
 same-actor lent None = refl
 same-actor lent (Some (piece.Unit x)) = refl
 same-actor lent (Some (piece.Task m)) = refl
 same-actor lent (Some (piece.Actor a)) = refl
 
-machine-of : (P : Evaluation → Type 0) (lent : Bool) (found : Option Piece) (z : Unit) → option_and_then unit_in (option_map (settles_now lent) found) ≡ Some z → ((y : Unit) → option_and_then unit_in found ≡ Some y → P y.machine) → P z.machine
+pub machine-of : (P : Evaluation → Type 0) (lent : Bool) (found : Option Piece) (z : Unit) → option_and_then unit_in (option_map (settles_now lent) found) ≡ Some z → ((y : Unit) → option_and_then unit_in found ≡ Some y → P y.machine) → P z.machine
 machine-of P lent None z e all = cc
 machine-of P lent (Some (piece.Unit x)) z e all = let same : record x { mark = mark_settles lent x.mark } ≡ z = cc in subst (λ (k : Unit). P k.machine) same (all x refl)
 machine-of P lent (Some (piece.Task m)) z e all = cc
@@ -183,7 +181,6 @@ module _ (old : Shared) (st : Stands old) (on_going : old.end ≡ None) (u : Nam
       end_is = ap (λ (k : World). k.end) place.1 ∙ st.seen.end ∙ sym (ap (λ (s : Shared). s.end) place.0);
       within = within-left;
       holds = holds-left;
-      sent = subst (λ (s : Shared). AreSent s.taken s.mails) (sym place.0) st.sent;
     }
 
   -- what it does, once it is settled: the bytes, or nothing but its answer
@@ -249,7 +246,6 @@ module _ (old : Shared) (st : Stands old) (on_going : old.end ≡ None) (u : Nam
     end_is = st.seen.end ∙ sym (ap (λ (s : Shared). s.end) is.others);
     within = within-left definite r rest held_is;
     holds = holds-left definite r rest held_is;
-    sent = subst (λ (s : Shared). AreSent s.taken s.mails) (sym is.others) st.sent;
   }
     where
       r : Request
@@ -292,7 +288,6 @@ module _ (old : Shared) (st : Stands old) (on_going : old.end ≡ None) (u : Nam
     end_is = st.seen.end ∙ sym (ap (λ (s : Shared). s.end) is.others);
     within = within-left definite r rest held_is;
     holds = holds-left definite r rest held_is;
-    sent = subst (λ (s : Shared). AreSent s.taken s.mails) (sym is.others) st.sent;
   }
     where
       r : Request
@@ -386,7 +381,6 @@ module _ (old : Shared) (st : Stands old) (on_going : old.end ≡ None) (u : Nam
         end_is = st.seen.end;
         within = within-begun;
         holds = holds-begun;
-        sent = sent-taken a None old.taken r.taken old.mails r.takes (λ m e. cc) st.sent;
       }) found new r.settles
         where
           busy : Actor
@@ -429,8 +423,8 @@ module _ (old : Shared) (st : Stands old) (on_going : old.end ≡ None) (u : Nam
 
       -- pieces, mail and what is taken change alone
       with-base : base ≡ record old { taken = base.taken; mails = base.mails; board = base.board } → SameStates old.board base.board → SameActors old.board base.board → EachMachine (IsMachine old.setup) base.board
-          → ((a : Name) → w2.taken a ≡ one_or_none (named a base.taken)) → ((a : Name) → w2.mails a ≡ mail_at base.mails a) → AreSent base.taken base.mails → IsBase base (Run u) (left_after h r rest) w2
-      with-base others states actors machines taken mails sent = record {
+          → ((a : Name) → w2.taken a ≡ one_or_none (named a base.taken)) → ((a : Name) → w2.mails a ≡ mail_at base.mails a) → IsBase base (Run u) (left_after h r rest) w2
+      with-base others states actors machines taken mails = record {
         setup = ap (λ (s : Shared). s.setup) others;
         history = ap (λ (s : Shared). s.history) others;
         attempts = ap (λ (s : Shared). s.attempts) others;
@@ -453,7 +447,6 @@ module _ (old : Shared) (st : Stands old) (on_going : old.end ≡ None) (u : Nam
         end_is = st.seen.end ∙ sym (ap (λ (s : Shared). s.end) others);
         within = within-left definite r rest held_is;
         holds = holds-left definite r rest held_is;
-        sent = sent;
       }
 
       by : SendsHeld old u to args base → IsBase base (Run u) (left_after h r rest) w2
@@ -464,7 +457,6 @@ module _ (old : Shared) (st : Stands old) (on_going : old.end ≡ None) (u : Nam
           (machines-put (IsMachine old.setup) turn now old.board base.board (λ z e. machine-of (IsMachine old.setup) lent (piece_at old.board turn) z e (st.machines turn)) ready st.machines)
           (λ a. takes a (same_name a to) refl (changed a))
           (λ a. mails a (same_name a to) refl)
-          (subst (λ ms. AreSent base.taken ms) (sym (ap (λ (s : Shared). s.mails) others)) (sent-taken to (Some (definite_of m)) old.taken base.taken old.mails changed (λ k e. let same : definite_of m ≡ k = cc in subst IsOfTurn same (definite-of m)) st.sent))
         where
           turn : Name
           turn = made_by to actor.turns
@@ -503,8 +495,6 @@ module _ (old : Shared) (st : Stands old) (on_going : old.end ≡ None) (u : Nam
           (machines-put (IsMachine old.setup) to (roused_unless begun (piece_at old.board to)) old.board base.board (λ z e. st.machines to z (sym (roused-is begun (piece_at old.board to)) ∙ e)) rouses st.machines)
           (λ a. takes a (same_name a to) refl)
           (λ a. mails a (same_name a to) refl)
-          (subst (λ ts. AreSent ts base.mails) (sym (ap (λ (s : Shared). s.taken) others))
-          (sent-mailed old.taken to (settle_or_put (same_name u) (settled u args) (mail_at old.mails to)) old.mails base.mails mailed (settle-of (same_name u) (settled u args) (mail_at old.mails to) (settled-of u args) (st.sent.mail_so to)) st.sent))
         where
           begun : Bool
           begun = is_some (named to old.taken)

@@ -1,16 +1,13 @@
 -- How the marks stay right where actors are made, roused and freed.
-use Rattle.std.proofs.Common.{◌≡◌, ◌∙◌, Bool, true, false, List, [], ◌∷◌, ◌++◌, append-nil, refl, sym, ap, ap₂, subst}
-use Rattle.std.specs.Prelude.{◌||◌, Option, None, Some, is_some, map}
+use Rattle.std.proofs.Common.{◌≡◌, ◌∙◌, Bool, true, false, List, [], ◌∷◌, ◌++◌, refl, sym, ap, ap₂, subst}
+use Rattle.std.specs.Prelude.{◌||◌, Option, None, Some, is_some}
 use Rattle.actor_mailbox.specs.declared.message.Message.{Message}
 use Rattle.actor_mails.specs.Mails.{Mail, SameMailBut, mail_at}
 use Rattle.serial_model.specs.declared.actor_state.ActorState.{ActorState}
-use Rattle.serial_model.specs.declared.effect.Effect.{Effect}
-use Rattle.serial_model.specs.Sends.{effects_to}
 use Rattle.shared_world.proofs.Besides.{apart-of}
-use Rattle.shared_world.proofs.Marks.{IsSameButActors, but_actor, marked-actors, same-settles}
+use Rattle.shared_world.proofs.Marks.{IsSameButActors, but_actor}
 use Rattle.shared_world.specs.Marks.{AreMarked}
-use Rattle.shared_world.specs.rows.Actors.{acted, actor_mark, actor_with, has_turn, mark_roused, roused_unless, spawned}
-use Rattle.shared_world.specs.rows.Attempts.{ActorsAct}
+use Rattle.shared_world.specs.rows.Actors.{actor_mark, actor_with, has_turn, mark_roused, roused_unless}
 use Rattle.shared_world.specs.rows.Leading.{can_settle}
 use Rattle.shared_world.specs.Shared.{Shared}
 use Rattle.unit_table.specs.Board.{Board, IsPutAt, piece_at}
@@ -18,9 +15,7 @@ use Rattle.unit_table.specs.declared.piece.Actor.{Actor}
 use Rattle.unit_table.specs.declared.piece.Piece.{Piece}
 use Rattle.unit_table.specs.declared.piece.Piece.TheVariants as piece
 use Rattle.value_core.proofs.NamedLaws.{same_name-equal}
-use Rattle.value_core.specs.declared.value.Value.{Value}
 use Rattle.value_core.specs.Named.{Name, named, same_name}
-use Rattle.world_model.specs.Message.{settled}
 
 -- the mark of an actor that stands there is that of the one that was put
 pub put-mark : (begun : Bool) (x z : Actor) (mail : List Message) → Some (piece.Actor x) ≡ Some (piece.Actor z) → x.mark ≡ actor_mark (begun || x.state.busy) mail → z.mark ≡ actor_mark (begun || z.state.busy) mail
@@ -55,42 +50,9 @@ roused-but false (Some (piece.Unit x)) = refl
 roused-but false (Some (piece.Task m)) = refl
 roused-but false (Some (piece.Actor a)) = refl
 
--- where an actor is made nothing stood; elsewhere a unit and a task stay
-acted-but : (begun : Bool) (made : Option ActorState) (sent : List (List Value)) (mail : List Message) (found : Option Piece) → ((state : ActorState) → made ≡ Some state → but_actor found ≡ None)
-    → but_actor (acted begun made sent mail found) ≡ but_actor found
-acted-but begun (Some state) sent mail found none = sym (none state refl)
-acted-but begun None [] mail found none = refl
-acted-but begun None (args ∷ more) mail found none = roused-but begun found
-
--- the mark of an actor that was made, or roused by what was sent
-acted-mark : (u : Name) (begun : Bool) (made : Option ActorState) (sent : List (List Value)) (before mail : List Message) (found : Option Piece) (z : Actor) → ((x : Actor) → found ≡ Some (piece.Actor x) → x.mark ≡ actor_mark (begun || x.state.busy) before)
-    → ((state : ActorState) → made ≡ Some state → begun ≡ false) → mail ≡ before ++ map (settled u) sent → acted begun made sent mail found ≡ Some (piece.Actor z) → z.mark ≡ actor_mark (begun || z.state.busy) mail
-acted-mark u begun (Some state) sent before mail found z right fresh is e = put-mark begun (record { state = state; mark = actor_mark state.busy mail }) z mail e (ap (λ b. actor_mark (b || state.busy) mail) (sym (fresh state refl)))
-acted-mark u begun None [] before mail found z right fresh is e = right z e ∙ ap (actor_mark (begun || z.state.busy)) (sym (append-nil before) ∙ sym is)
-acted-mark u begun None (args ∷ more) before mail found z right fresh is e = rouses-right begun before mail found z right (λ none. has-last before (settled u args) (map (settled u) more) (sym is ∙ none)) e
-
 -- no message is taken of an actor that is not there
 abbrev pub NoneTaken : Shared → Type 0
 NoneTaken s = (a : Name) → piece_at s.board a ≡ None → named a s.taken ≡ None
-
--- What the effects of a transaction do to actors: all else is the same to the marks.
-pub acts-marked : (u : Name) (effects : List Effect) (base s new : Shared) → AreMarked s → new.setup ≡ s.setup → new.attempts ≡ s.attempts → new.owners ≡ s.owners → new.aheads ≡ s.aheads → new.taken ≡ s.taken → s.taken ≡ base.taken
-    → ActorsAct effects base s.board new → ((a : Name) → piece_at base.board a ≡ None → piece_at s.board a ≡ None) → NoneTaken base → ((a : Name) → mail_at new.mails a ≡ mail_at s.mails a ++ map (settled u) (effects_to a effects)) → AreMarked new
-acts-marked u effects base s new marked setup attempts owners aheads taken same acts none none_taken mails = marked-actors s new (record {
-  setup = setup;
-  attempts = λ v. ap (named v) attempts;
-  owners = owners;
-  aheads = aheads;
-  settles = λ v. same-settles s new v (ap (named v) aheads) taken;
-  pieces = λ n. ap but_actor (acts.pieces n) ∙ acted-but (begun n) (spawned effects n) (effects_to n effects) (mail_at new.mails n) (piece_at s.board n) (λ state made. ap but_actor (none n (acts.none n state made)));
-  actors = λ a z there.
-      acted-mark u (begun a) (spawned effects a) (effects_to a effects) (mail_at s.mails a) (mail_at new.mails a) (piece_at s.board a) z
-      (λ x at. marked.actors a x at ∙ ap (λ t. actor_mark (has_turn t a x.state) (mail_at s.mails a)) same) (λ state made. ap is_some (none_taken a (acts.none a state made))) (mails a) (sym (acts.pieces a) ∙ there)
-      ∙ ap (λ t. actor_mark (has_turn t a z.state) (mail_at new.mails a)) (sym (taken ∙ same));
-}) marked
-  where
-    begun : Name → Bool
-    begun a = is_some (named a base.taken)
 
 -- What stands under that name is the same to the marks, but where it is an actor, whose mark is right; and everything else stays.
 pub record IsActorPut (a : Name) (now : Option Piece) (old new : Shared) : Type 0 where

@@ -90,7 +90,7 @@ not-empty test last (m ∷ ms) e = on (passes test m.depends) e
 
 -- ---- a turn becomes definite
 -- what a turn says, once it can settle what it holds
-says-definite : (old base : Shared) (u : Name) (x y : Doing) (lent : Bool) → can_settle base u ≡ true → (named u old.attempts ≡ None → named u base.attempts ≡ None) → (m : Mark) → UnitSays old u x m → UnitSays base u y (mark_settles lent m)
+pub says-definite : (old base : Shared) (u : Name) (x y : Doing) (lent : Bool) → can_settle base u ≡ true → (named u old.attempts ≡ None → named u base.attempts ≡ None) → (m : Mark) → UnitSays old u x m → UnitSays base u y (mark_settles lent m)
 says-definite old base u x y true can none (mark.Ready work.Eval) says = none says
 says-definite old base u x y false can none (mark.Ready work.Eval) says = inr can
 says-definite old base u x y true can none (mark.Ready work.Settle) says = inr can
@@ -102,19 +102,19 @@ says-definite old base u x y lent can none (mark.Finished v) says = none says
 says-definite old base u x y lent can none mark.Dropped says = absurd says
 
 -- a unit that stands there now stood there, but for its mark
-settles-unit : (lent : Bool) (found : Option Piece) (z : Doing) → option_and_then unit_in (option_map (settles_now lent) found) ≡ Some z → (y : Doing) × (option_and_then unit_in found ≡ Some y) × (z ≡ record y { mark = mark_settles lent y.mark })
+pub settles-unit : (lent : Bool) (found : Option Piece) (z : Doing) → option_and_then unit_in (option_map (settles_now lent) found) ≡ Some z → (y : Doing) × (option_and_then unit_in found ≡ Some y) × (z ≡ record y { mark = mark_settles lent y.mark })
 settles-unit lent None z e = cc
 settles-unit lent (Some (piece.Unit y)) z e = (y, refl, (let same : record y { mark = mark_settles lent y.mark } ≡ z = cc in sym same))
 settles-unit lent (Some (piece.Task m)) z e = cc
 settles-unit lent (Some (piece.Actor a)) z e = cc
 
-settles-task : (lent : Bool) (found : Option Piece) (m : Mark) → option_map (settles_now lent) found ≡ Some (piece.Task m) → found ≡ Some (piece.Task m)
+pub settles-task : (lent : Bool) (found : Option Piece) (m : Mark) → option_map (settles_now lent) found ≡ Some (piece.Task m) → found ≡ Some (piece.Task m)
 settles-task lent None m e = cc
 settles-task lent (Some (piece.Unit y)) m e = cc
 settles-task lent (Some (piece.Task k)) m e = e
 settles-task lent (Some (piece.Actor a)) m e = cc
 
-settles-actor : (lent : Bool) (found : Option Piece) (z : Actor) → option_map (settles_now lent) found ≡ Some (piece.Actor z) → found ≡ Some (piece.Actor z)
+pub settles-actor : (lent : Bool) (found : Option Piece) (z : Actor) → option_map (settles_now lent) found ≡ Some (piece.Actor z) → found ≡ Some (piece.Actor z)
 settles-actor lent None z e = cc
 settles-actor lent (Some (piece.Unit y)) z e = cc
 settles-actor lent (Some (piece.Task k)) z e = cc

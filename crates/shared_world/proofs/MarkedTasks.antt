@@ -8,17 +8,21 @@ use Rattle.ref_store.specs.declared.version.Version.{Version}
 use Rattle.ref_store.specs.Store.{versions_of}
 use Rattle.ref_store.specs.Version.{newest}
 use Rattle.serial_model.specs.declared.halt.Halt.{Halt}
-use Rattle.serial_model.specs.declared.halt.Halt.TheVariants as halt
-use Rattle.serial_model.specs.declared.request.Request.TheVariants as request
 use Rattle.serial_model.specs.State.{UnitState}
 use Rattle.shared_world.proofs.ActorPieces.{actor_of_piece}
 use Rattle.shared_world.proofs.Besides.{apart-of}
 use Rattle.shared_world.proofs.Live.{unit-piece}
-use Rattle.shared_world.proofs.MarkedActors.{NoneTaken, acts-marked}
+use Rattle.shared_world.proofs.MarkedActors.{NoneTaken}
+use Rattle.shared_world.proofs.MarkedCommits.{commits-marked}
 use Rattle.shared_world.proofs.MarkedGone.{marked-gone}
 use Rattle.shared_world.proofs.MarkedSteps.{IsWithChild, forked-not, forked-so, forks_it, marked-step, says_ended}
-use Rattle.shared_world.proofs.MarkedUnits.{ends-going, root-piece}
+use Rattle.shared_world.proofs.MarkedUnits.{ends-going}
 use Rattle.shared_world.proofs.Marks.{AreMarkedBut, but-one, marked-set, still-ahead}
+use Rattle.shared_world.proofs.MarkedBeside.{HasTasks, IsBase, beside, kept-base, same-tasks}
+use Rattle.shared_world.proofs.Posting.{IsPosting, step-posting, posting-rest, posting-step, posting-task, posting-unit}
+use Rattle.shared_world.proofs.Sending.{posted-by}
+use Rattle.shared_world.proofs.Standing.{root-in}
+use Rattle.shared_world.proofs.UndoesMarks.{undoes-marks}
 use Rattle.shared_world.proofs.States.{task-set}
 use Rattle.shared_world.proofs.Takings.{none-taken}
 use Rattle.task_fork_join.proofs.StepShapes.{GoesAt, IsAfter, IsShaped, WaitsPlain, shaped}
@@ -26,14 +30,19 @@ use Rattle.shared_world.proofs.Steps.{goes-with}
 use Rattle.shared_world.specs.declared.given.Given.{Given}
 use Rattle.shared_world.specs.Gave.{GaveTask}
 use Rattle.shared_world.specs.Marks as marks
-use Rattle.shared_world.specs.Marks.{AreMarked, HangsOn, IsTaskPiece, IsToCome, TaskSays, UnitSays}
+use Rattle.shared_world.specs.Marks.{AreMarked, AreMarkedBeside, HangsOn, IsTaskPiece, IsToCome, TaskSays, UnitSays}
 use Rattle.shared_world.specs.Returned.{halt_of}
-use Rattle.shared_world.specs.rows.Attempts.{Aborts, AttemptGoes, Commits, TasksGo}
+use Rattle.shared_world.specs.rows.Attempts.{AttemptGoes, TasksGo}
+use Rattle.shared_world.specs.rows.Undoing.{Aborts}
+use Rattle.shared_world.specs.Laws.{IsTried}
+use Rattle.shared_world.specs.rows.Commits.{Commits}
 use Rattle.shared_world.specs.rows.Pieces.{IsSet, task_gone}
 use Rattle.shared_world.specs.rows.Tasks as row
 use Rattle.shared_world.specs.rows.Tasks.{AfterStep, EndGives, IsMarkedTask, Missing, RootGives, StepGives, TaskGives, WaitsForTurn, outer_of}
+use Rattle.shared_world.specs.rows.Sending.{sends_in}
+use Rattle.shared_world.specs.Seen.{done_by_root}
 use Rattle.task_fork_join.specs.Stepping.{is_missing}
-use Rattle.shared_world.specs.Shared.{Shared, finished_at, finished_by, is_going, state_at, unit_state}
+use Rattle.shared_world.specs.Shared.{Shared, finished_at, finished_by, is_going, unit_state}
 use Rattle.shared_world.specs.Stands.{Stands}
 use Rattle.task_fork_join.specs.Attempt.{Attempt, end_at, end_by, end_of, machine_at, machine_of}
 use Rattle.task_fork_join.specs.declared.stepped.Stepped.{Stepped}
@@ -46,7 +55,7 @@ use Rattle.task_fork_join.specs.declared.task_end.TaskEnd.TheVariants as end
 use Rattle.task_fork_join.specs.Joining.{IsGoing}
 use Rattle.task_fork_join.specs.Step.{IsStep}
 use Rattle.txn_snapshot.specs.SnapshotAnswer.{snapshot_of}
-use Rattle.unit_table.specs.Board.{Board, piece_at, unit_at}
+use Rattle.unit_table.specs.Board.{Board, actor_at, piece_at, unit_at}
 use Rattle.unit_table.specs.declared.mark.Mark.{Mark}
 use Rattle.unit_table.specs.declared.mark.Mark.TheVariants as mark
 use Rattle.unit_table.specs.declared.mark.WaitOn.TheVariants as wait
@@ -59,7 +68,7 @@ use Rattle.value_core.proofs.NamedLaws.{named-here, named-with_named, same_name-
 use Rattle.value_core.specs.declared.value.Value.{Value}
 use Rattle.value_core.specs.declared.value.Value.TheVariants as value
 use Rattle.task_fork_join.specs.Knowledge.{is_known}
-use Rattle.value_core.specs.Named.{Name, Named, named, same_name, with_named}
+use Rattle.value_core.specs.Named.{Name, named, same_name, with_named}
 
 none-by : (escape : TaskEnd) (o : Option TaskEnd) → end_by escape o ≡ None → o ≡ None
 none-by escape None e = refl
@@ -75,26 +84,6 @@ keeps-going : (s : Stage) (machine : Evaluation) → machine_at s ≡ Some machi
 keeps-going (kept.Going m) machine e = tt
 keeps-going (kept.Closing closing) machine e = tt
 keeps-going (kept.Ended ended) machine e = cc
-
--- The tasks of an attempt of a unit, as they are once one of them has taken a step: those that it had, a child that is no piece
--- yet, and where it is.
-pub record HasTasks (old : Shared) (u : Name) (tree after : Attempt) : Type 0 where
-  pub root : after.root ≡ tree.root
-  pub only : (n : Name) (t : Task) → named n after.tasks ≡ Some t → ((k : Task) × (named n tree.tasks ≡ Some k)) ⊎ (piece_at old.board n ≡ None)
-  pub all : (n : Name) (k : Task) → named n tree.tasks ≡ Some k → (t : Task) × (named n after.tasks ≡ Some t)
-
-same-tasks : (old : Shared) (u : Name) (tree : Attempt) → HasTasks old u tree tree
-same-tasks old u tree = record { root = refl; only = λ n t is. inl (t, is); all = λ n k is. (k, is) }
-
--- what is kept, with those tasks of the attempt
-pub record IsBase (old : Shared) (u : Name) (after : Attempt) (base : Shared) : Type 0 where
-  pub attempts : (v : Name) → named v base.attempts ≡ cond (same_name v u) (Some after) (named v old.attempts)
-  pub board : base.board ≡ old.board
-  pub mails : base.mails ≡ old.mails
-  pub owners : base.owners ≡ old.owners
-  pub aheads : base.aheads ≡ old.aheads
-  pub taken : base.taken ≡ old.taken
-  pub setup : base.setup ≡ old.setup
 
 -- all else stays where an attempt is gone
 record IsLeftSo (base new : Shared) : Type 0 where
@@ -138,28 +127,22 @@ module _ (old : Shared) (marked : AreMarked old) (u : Name) (x : Doing) (tree af
           on true e = refl
           on false e = e
 
-  aborts : (ref : Name) (version : ℕ) (found : Given) (new : Shared) → Aborts base u x after ref version found new → AreMarked new
-  aborts ref version found new r = gone new r.unit r.goes (record {
-    setup = ap (λ (s : Shared). s.setup) r.others;
-    owners = ap (λ (s : Shared). s.owners) r.others;
-    aheads = ap (λ (s : Shared). s.aheads) r.others;
-    taken = ap (λ (s : Shared). s.taken) r.others;
-    mails = λ a. ap (λ (s : Shared). mail_at s.mails a) r.others;
-  }) (ap finished_by r.stands.mark) (λ none. subst (λ m. UnitSays new u r.unit m) (sym r.stands.mark) (inl none))
+  aborts : IsTried base u x after → (ref : Name) (version : ℕ) (found : Given) (new : Shared) → Aborts base u x after ref version found new → AreMarked new
+  aborts tried ref version found new r = undoes-marks base new u x after tried (beside old marked u tree after there tasks base is_base) r.undoes
 
   -- the attempt is gone, and then its effects are there
   commits : NoneTaken base → (v : Value) (found : Given) (new : Shared) → Commits base u x after v found new → AreMarked new
-  commits none_taken v found new r = acts-marked u r.log.log.effects base left new left-marked refl refl refl refl refl (ap (λ (s : Shared). s.taken) r.others) r.acts nothing none_taken r.mails
+  commits none_taken v found new r = commits-marked u r.log.log.effects after base left new left-marked refl refl refl refl (ap (λ (s : Shared). s.aheads) r.others) refl refl r.acts r.sends nothing none_taken
     where
       left : Shared
-      left = record new { board = r.board; mails = base.mails }
+      left = record new { board = r.board; mails = base.mails; taken = base.taken }
 
       left-marked : AreMarked left
       left-marked = gone left r.unit (record { attempts = r.goes.attempts; tasks = r.goes.tasks }) (record {
         setup = ap (λ (s : Shared). s.setup) r.others;
         owners = ap (λ (s : Shared). s.owners) r.others;
         aheads = ap (λ (s : Shared). s.aheads) r.others;
-        taken = ap (λ (s : Shared). s.taken) r.others;
+        taken = refl;
         mails = λ a. refl;
       }) (ap finished_by r.stands.mark) (λ none. subst (λ m. UnitSays left u r.unit m) (sym r.stands.mark) none)
 
@@ -178,27 +161,16 @@ module _ (old : Shared) (marked : AreMarked old) (u : Name) (x : Doing) (tree af
   ends none_taken (end.Fault failed at) found new on_going r = absurd (ends-going base _ _ found new r on_going)
   ends none_taken end.Spent found new on_going r = absurd (ends-going base _ _ found new r on_going)
 
-  pub roots : (task : Name) (found : Given) (new : Shared) → (WaitsForTurn base u task found new → AreMarked new) → NoneTaken base → (ended : TaskEnd) → is_going new.end ≡ true → RootGives base u x task after ended found new → AreMarked new
-  roots task found new waits none_taken ended on_going (row.valid level unchanged gives) = ends none_taken ended found new on_going gives
-  roots task found new waits none_taken ended on_going (row.conflicts level c) = aborts c.ref c.conflict.version found new c.aborts
-  roots task found new waits none_taken ended on_going (row.waits r) = waits r
-
--- the attempt as it is kept
-kept-base : (old : Shared) (u : Name) (tree : Attempt) → named u old.attempts ≡ Some tree → IsBase old u tree old
-kept-base old u tree there = record { attempts = λ v. own v (same_name v u) refl; board = refl; mails = refl; owners = refl; aheads = refl; taken = refl; setup = refl }
-  where
-    own : (v : Name) (c : Bool) → same_name v u ≡ c → named v old.attempts ≡ cond (same_name v u) (Some tree) (named v old.attempts)
-    own v true e = ap (λ q. named q old.attempts) (same_name-equal v u e) ∙ there ∙ sym (ap (λ c. cond c (Some tree) (named v old.attempts)) e)
-    own v false e = sym (ap (λ c. cond c (Some tree) (named v old.attempts)) e)
-
--- an attempt is undone
-pub undone-marked : (old : Shared) → AreMarked old → (u : Name) (x : Doing) (tree : Attempt) → unit_at old.board u ≡ Some x → named u old.attempts ≡ Some tree → (ref : Name) (version : ℕ) (found : Given) (new : Shared) → Aborts old u x tree ref version found new → AreMarked new
-undone-marked old marked u x tree unit_there there ref version found new r = aborts old marked u x tree tree unit_there there (same-tasks old u tree) old (kept-base old u tree there) ref version found new r
+  pub roots : IsTried base u x after → (task : Name) (found : Given) (new : Shared) → (WaitsForTurn base u task found new → AreMarked new) → NoneTaken base → (ended : TaskEnd) → is_going new.end ≡ true → RootGives base u x task after ended found new → AreMarked new
+  roots tried task found new waits none_taken ended on_going (row.valid level unchanged gives) = ends none_taken ended found new on_going gives
+  roots tried task found new waits none_taken ended on_going (row.conflicts level c) = aborts tried c.ref c.conflict.version found new c.aborts
+  roots tried task found new waits none_taken ended on_going (row.waits r) = waits r
 
 -- a task of an attempt takes a step, whatever comes of it
-module _ (old : Shared) (st : Stands old) (marked : AreMarked old) (going : is_going old.end ≡ true) (u task : Name) (x : Doing) (tree : Attempt) (m : Mark) (at_task : piece_at old.board task ≡ Some (piece.Task m)) (of : named task old.owners ≡ Some u)
+module _ (old : Shared) (marked : AreMarked old) (u task : Name) (x : Doing) (tree : Attempt) (m : Mark) (at_task : piece_at old.board task ≡ Some (piece.Task m)) (of : named task old.owners ≡ Some u)
     (unit_there : unit_at old.board u ≡ Some x) (there : named u old.attempts ≡ Some tree) (before : end_at tree ≡ None) (machine moved : Evaluation) (is : machine_of tree task ≡ Some machine) (after : Attempt) (went : Stepped)
-    (step : IsStep (snapshot_of old.versions tree.snapshot) task moved (outer_of old.board (halt_of old.setup.program machine)) (halt_of old.setup.program machine) tree after went) where
+    (step : IsStep (snapshot_of old.versions tree.snapshot) task moved (outer_of old.board (halt_of old.setup.program machine)) (halt_of old.setup.program machine) tree after went)
+    (st : Stands (record old { attempts = with_named old.attempts u after })) (going : is_going old.end ≡ true) where
   abbrev h : Halt
   h = halt_of old.setup.program machine
 
@@ -261,6 +233,9 @@ module _ (old : Shared) (st : Stands old) (marked : AreMarked old) (going : is_g
   abbrev base : Shared
   base = record old { attempts = with_named old.attempts u after }
 
+  tried : IsTried base u x after
+  tried = record { stands = st; going = going; there = unit_there; attempt = named-here u after old.attempts }
+
   attempt-of : (v : Name) → named v base.attempts ≡ cond (same_name v u) (Some after) (named v old.attempts)
   attempt-of v = named-with_named v u after old.attempts
 
@@ -282,7 +257,9 @@ module _ (old : Shared) (st : Stands old) (marked : AreMarked old) (going : is_g
           let here : named after.root after.tasks ≡ Some shape.after = ap (λ q. named q after.tasks) (ap (λ (a : Attempt). a.root) same ∙ root) ∙ shape.here in
           ended (none-by after.escape (end_of shape.after.stage) (sym (ap (λ o. end_by after.escape (option_and_then (λ (t : Task). end_of t.stage) o)) here) ∙ unended))
       on false e =
-          let has = root-piece old st going marked v some (sym (attempts v ∙ ap (λ c. cond c (Some after) (named v old.attempts)) e) ∙ at) in
+          let was = sym (attempts v ∙ ap (λ c. cond c (Some after) (named v old.attempts)) e) ∙ at in
+          let in_it = root-in base v some (st.attempts going v some (named-with_named v u after old.attempts ∙ ap (λ c. cond c (Some after) (named v old.attempts)) e ∙ was)) in
+          let has = marked.pieces v some was some.root in_it.0 in_it.1 in
           let both : Some u ≡ Some v = sym of ∙ ap (λ q. named q old.owners) (sym root) ∙ has.of in
           let same : u ≡ v = cc in
           apart-of v u e (sym same)
@@ -392,7 +369,7 @@ module _ (old : Shared) (st : Stands old) (marked : AreMarked old) (going : is_g
   misses : (ref : Name) → went ≡ stepped.NotInSnapshot ref → (o : Option Version) (found : Given) (new : Shared) → Missing base u x task after ref o found new → AreMarked new
   misses ref so None found new r = marks-task new (mark.Waiting (wait.Definite u)) (stepped.NotInSnapshot ref) so (λ n. refl) (λ o e. cc) r.marked (λ e. cc) (λ turn e. let same : u ≡ turn = cc in sym same)
       (λ o. record { going = is-after (stepped.NotInSnapshot ref) so; own = refl; leads = record { ahead = r.ahead; leads = ap (λ (s : Shared). named u s.aheads) r.marked.others ∙ r.leads } })
-  misses ref so (Some version) found new r = aborts old marked u x tree after unit_there there (has-tasks (λ n. ap (λ w. forks_it w n) so)) base is-base ref version.number found new r
+  misses ref so (Some version) found new r = aborts old marked u x tree after unit_there there (has-tasks (λ n. ap (λ w. forks_it w n) so)) base is-base tried ref version.number found new r
 
   -- what comes of it where the root is not at its end
   comes : (found : Given) (new : Shared) (w : Stepped) → went ≡ w → end_at after ≡ None → StepGives base u x task after w found new → AreMarked new
@@ -410,7 +387,7 @@ module _ (old : Shared) (st : Stands old) (marked : AreMarked old) (going : is_g
 
   pub step-marked : (found : Given) (new : Shared) (o : Option TaskEnd) → end_at after ≡ o → is_going new.end ≡ true → AfterStep base u x task after went o found new → AreMarked new
   step-marked found new None unended on_going gives = comes found new went refl unended gives
-  step-marked found new (Some ended) is_ended on_going gives = roots old marked u x tree after unit_there there (has-tasks (no-fork ended is_ended)) base is-base task found new (λ r. ended-marked new ended is_ended (mark.Waiting (wait.Definite u)) refl (λ turn e. let same : u ≡ turn = cc in sym same) r.marked) (λ a none. none-taken old st a (ap actor_of_piece none)) ended on_going gives
+  step-marked found new (Some ended) is_ended on_going gives = roots old marked u x tree after unit_there there (has-tasks (no-fork ended is_ended)) base is-base tried task found new (λ r. ended-marked new ended is_ended (mark.Waiting (wait.Definite u)) refl (λ turn e. let same : u ≡ turn = cc in sym same) r.marked) (λ a none. none-taken base st a (ap actor_of_piece none)) ended on_going gives
 
   -- The mark of the task stays for want of memory, where it waits for a ref.
   module _ (new : Shared) (held : is_missing went ≡ true) (stays : piece_at new.board task ≡ Some (piece.Task m)) (others : (q : Name) → (q ≡ task → ⊥) → piece_at new.board q ≡ piece_at old.board q) (rest : new ≡ record base { board = new.board }) where
@@ -508,9 +485,22 @@ module _ (old : Shared) (st : Stands old) (marked : AreMarked old) (going : is_g
   pub left-again : (new : Shared) (f : Name) → went ≡ stepped.WaitJoin f → IsMarkedTask base task (mark.Ready work.Eval) new → AreMarked new
   left-again new f so marked_so = marks-task new (mark.Ready work.Eval) (stepped.WaitJoin f) so (λ n. refl) (λ o e. cc) marked_so (λ e. cc) (λ turn e. cc) (λ o. (is-after (stepped.WaitJoin f) so).0)
 
+  -- So it can where it goes on, and what its root sent is not put for want of memory.
+  pub left-now : (new : Shared) → went ≡ stepped.Now → IsMarkedTask base task (mark.Ready work.Eval) new → AreMarked new
+  left-now new so marked_so = marks-task new (mark.Ready work.Eval) stepped.Now so (λ n. refl) (λ o e. cc) marked_so (λ e. cc) (λ turn e. cc) (λ o. is-after stepped.Now so)
+
   -- It is ready to settle for want of memory, where the root is at its end.
   pub left-ended : (new : Shared) (ended : TaskEnd) → end_at after ≡ Some ended → IsMarkedTask base task (mark.Ready work.Settle) new → AreMarked new
   left-ended new ended is_ended = ended-marked new ended is_ended (mark.Ready work.Settle) refl (λ turn e. cc)
+
+  -- ---- the marks of all but the tasks of the attempt
+  -- where it is undone for a ref
+  pub missing-beside : (ref : Name) → went ≡ stepped.NotInSnapshot ref → AreMarkedBeside base u
+  missing-beside ref so = beside old marked u tree after there (has-tasks (λ n. ap (λ w. forks_it w n) so)) base is-base
+
+  -- and where its root is at its end
+  pub ended-beside : (ended : TaskEnd) → end_at after ≡ Some ended → AreMarkedBeside base u
+  ended-beside ended is_ended = beside old marked u tree after there (has-tasks (no-fork ended is_ended)) base is-base
 
 -- The mark of a task is set that is not finished: of it nothing is said, or what holds.
 pub left-marked : (old : Shared) (marked : AreMarked old) (task : Name) (m : Mark) (at_task : piece_at old.board task ≡ Some (piece.Task m)) (k : Mark) → says_finished k ≡ false → (new : Shared)
@@ -570,6 +560,12 @@ marked-task old st marked unended name found new on_going g = on (end_at g.tree)
             let both : Some own.tree ≡ Some g.tree = sym own.attempt ∙ ap (λ q. named q old.attempts) mine ∙ g.attempt in cc
 
     on : (ended : Option TaskEnd) (machine : Option Evaluation) → end_at g.tree ≡ ended → machine_of g.tree name ≡ machine → TaskGives old g.owner g.unit name g.tree ended machine found new → AreMarked new
-    on None (Some machine) before is r = step-marked old st marked going g.owner name g.unit g.tree g.mark g.there g.of g.unit_there g.attempt before machine r.moved is r.after r.went r.step found new (end_at r.after) refl on_going r.comes
+    on None (Some machine) before is r = step-marked r.mid (p.marks marked) g.owner name g.unit g.tree g.mark (posting-task old r.mid p name g.mark g.there)
+        (ap (λ (s : Shared). named name s.owners) (posting-rest old r.mid p) ∙ g.of) (posting-unit old r.mid p g.owner ∙ g.unit_there) (ap (λ (s : Shared). named g.owner s.attempts) (posting-rest old r.mid p) ∙ g.attempt) before machine r.by.moved is r.by.after r.by.went
+        (posting-step old r.mid p name g.tree machine r.by.moved r.by.after r.by.went r.by.step)
+        (posted-by old st going g.owner name g.tree g.attempt machine is r.by (end_at r.by.after) (named g.owner old.aheads) r.mid r.posts) (ap (λ (s : Shared). is_going s.end) (posting-rest old r.mid p) ∙ going) found new (end_at r.by.after) refl on_going r.comes
+      where
+        p : IsPosting old r.mid
+        p = step-posting (end_at r.by.after) (named g.owner old.aheads) old g.owner g.tree.root (sends_in (done_by_root g.tree)) (sends_in r.by.more) r.mid r.posts
     on None None before is r = absurd r
-    on (Some ended) machine before is r = roots old marked g.owner g.unit g.tree g.tree g.unit_there g.attempt (same-tasks old g.owner g.tree) old (kept-base old g.owner g.tree g.attempt) name found new (waits ended before) (λ a none. none-taken old st a (ap actor_of_piece none)) ended on_going r
+    on (Some ended) machine before is r = roots old marked g.owner g.unit g.tree g.tree g.unit_there g.attempt (same-tasks old g.owner g.tree) old (kept-base old g.owner g.tree g.attempt) (record { stands = st; going = going; there = g.unit_there; attempt = g.attempt }) name found new (waits ended before) (λ a none. none-taken old st a (ap actor_of_piece none)) ended on_going r

@@ -184,7 +184,7 @@ unit-but (Some (piece.Unit x)) = refl
 unit-but (Some (piece.Task m)) = refl
 unit-but (Some (piece.Actor a)) = refl
 
-task-but : (found : Option Piece) (m : Mark) → but_actor found ≡ Some (piece.Task m) → found ≡ Some (piece.Task m)
+pub task-but : (found : Option Piece) (m : Mark) → but_actor found ≡ Some (piece.Task m) → found ≡ Some (piece.Task m)
 task-but None m e = e
 task-but (Some (piece.Unit x)) m e = e
 task-but (Some (piece.Task k)) m e = e

@@ -7,7 +7,6 @@ use Rattle.serial_model.specs.State.{Setup, main_name, new_unit}
 use Rattle.shared_world.proofs.ActorPieces.{actor_of_piece, actors-put}
 use Rattle.shared_world.proofs.Live.{no-piece}
 use Rattle.shared_world.proofs.States.{machines-put, unit-put}
-use Rattle.shared_world.specs.Sent.{AreOfTurns}
 use Rattle.shared_world.specs.Opening.{IsOpening}
 use Rattle.shared_world.specs.Shared.{Shared, state_at}
 use Rattle.shared_world.specs.Stands.{IsMachine, Stands}
@@ -41,7 +40,6 @@ opening-stands setup s formed is = subst Stands (sym is.rest) (record {
   attempts = λ going u tree there. cc;
   numbers = λ r k d in_range. absurd (not-suc-le-zero in_range);
   aheads = λ u h leads. cc;
-  sent = record { taken_so = λ a m took. cc; mail_so = λ a. subst AreOfTurns (sym (is.no_mail a)) tt };
 })
   where
     no-actor : (a : Name) → actor_at s.board a ≡ None

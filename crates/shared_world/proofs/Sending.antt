@@ -1,208 +1,251 @@
--- A step of a task leaves what stands whatever is put, where its root's sends are put at once.
-use Rattle.std.proofs.Common.{◌≡◌, ◌∙◌, Bool, true, false, cond, drop, length, le_refl, List, [], ◌∷◌, ◌++◌, map, refl, sym, ap, ap₂, subst}
+-- A step of a task leaves what is kept standing, where what its root sends by it is put at once or kept.
+use Rattle.std.proofs.Common.{◌≡◌, ◌∙◌, Bool, true, false, cond, drop, length, le_refl, inl, inr, List, [], ◌∷◌, ◌++◌, append-nil, append_assoc, map, refl, sym, ap, ap₂, subst}
 use Rattle.std.specs.Option.{option_and_then, option_map}
-use Rattle.std.specs.Prelude.{Option, None, Some, is_some}
+use Rattle.std.specs.Prelude.{◌⊎◌, Option, None, Some}
 use Rattle.actor_mailbox.specs.declared.message.Message.{Message}
-use Rattle.actor_mails.specs.Mails.{SameMail, mail_at}
+use Rattle.actor_mails.specs.Mails.{mail_at}
 use Rattle.eval_step.specs.Evaluation.{Evaluation}
-use Rattle.serial_model.specs.declared.answer.Answer.TheVariants as answer
+use Rattle.serial_model.specs.declared.actor_state.ActorState.{ActorState}
 use Rattle.serial_model.specs.declared.effect.Effect.{Effect}
+use Rattle.serial_model.specs.declared.effect.What.{What}
 use Rattle.serial_model.specs.declared.effect.What.TheVariants as what
-use Rattle.serial_model.specs.declared.halt.Halt.{Halt}
-use Rattle.serial_model.specs.declared.halt.Halt.TheVariants as halt
-use Rattle.serial_model.specs.declared.request.Request.TheVariants as request
-use Rattle.serial_model.specs.Log.{with_effect}
 use Rattle.serial_model.specs.Sends.{effects_to}
 use Rattle.serial_model.specs.State.{UnitState}
-use Rattle.shared_world.proofs.ActorPieces.{SameActors, actors-put, not-same, roused-same, same-pieces-actors}
+use Rattle.shared_world.proofs.ActorPieces.{not-same}
 use Rattle.shared_world.proofs.Doing.{does-more, having_done}
+use Rattle.shared_world.proofs.Gone.{SeenAs, seen-as}
 use Rattle.shared_world.proofs.Leading.{ahead-still}
-use Rattle.shared_world.proofs.Standing.{root-in, under-way}
-use Rattle.shared_world.proofs.States.{EachMachine, SameStates, machines-put, machines-same, roused-is, roused-state, same-pieces, states-put}
-use Rattle.shared_world.proofs.Steps.{done-so, seen-stepped, step-grown, step-way}
+use Rattle.shared_world.proofs.Posting.{IsPosting, args-in, posting, posting-one, posting-rest, sends-append}
+use Rattle.shared_world.proofs.Standing.{under-way}
+use Rattle.shared_world.proofs.Steps.{seen-stepped, step-way}
+use Rattle.shared_world.proofs.Steps.{stepped as stepped-on}
 use Rattle.shared_world.specs.Ahead.{Ahead}
-use Rattle.shared_world.specs.Returned.{halt_of}
-use Rattle.shared_world.specs.rows.Actors.{roused_unless}
 use Rattle.shared_world.specs.rows.Sending as row
-use Rattle.shared_world.specs.rows.Sending.{Bears, IsPosted, Posts, StepsSending, held_to}
-use Rattle.shared_world.specs.rows.Tasks.{outer_of}
-use Rattle.shared_world.specs.Seen.{AttemptSeen, IsSeenAttempt, done_by_root, done_in, live_with}
+use Rattle.shared_world.specs.rows.Sending.{IsPosted, Posts, PutOrKept, Send, args_to, kept_by, send_in, sends_in}
+use Rattle.shared_world.specs.rows.Unsettled.{held_to}
+use Rattle.shared_world.specs.rows.Tasks.{HasStepped, StepPosts}
+use Rattle.shared_world.specs.Seen.{AttemptSeen, done_by_root, live_with, one_or_none}
 use Rattle.shared_world.specs.Shared.{Shared, finished_at, is_going}
-use Rattle.shared_world.specs.Stands.{IsMachine, IsUnderWay}
+use Rattle.shared_world.specs.Stands.{IsUnderWay, Stands}
 use Rattle.task_fork_join.specs.Attempt.{Attempt, machine_of}
-use Rattle.task_fork_join.specs.declared.stepped.Stepped.{Stepped}
-use Rattle.task_fork_join.specs.declared.task.Task.{Task}
-use Rattle.task_fork_join.specs.Step.{Comes}
-use Rattle.task_fork_join.specs.Stepping.{CameReply}
-use Rattle.txn_snapshot.specs.declared.answered.Answered.{Answered}
-use Rattle.txn_snapshot.specs.declared.answered.Answered.TheVariants as answered
-use Rattle.txn_snapshot.specs.SnapshotAnswer.{Reply, acts, replies, snapshot_of}
-use Rattle.txn_snapshot.specs.SnapshotTask.{SnapshotTask, with_log}
-use Rattle.unit_table.specs.Board.{SamePieces, piece_at}
-use Rattle.value_core.proofs.NamedLaws.{named-here, named-with_named, same_name-equal}
+use Rattle.task_fork_join.specs.declared.task_end.TaskEnd.{TaskEnd}
+use Rattle.unit_table.specs.Board.{actor_at}
+use Rattle.value_core.proofs.NamedLaws.{named-with_named, same_name-equal, same_name-itself}
 use Rattle.value_core.specs.declared.value.Value.{Value}
-use Rattle.value_core.specs.declared.value.Value.TheVariants as value
 use Rattle.value_core.specs.Named.{Name, named, same_name, with_named}
-use Rattle.value_core.specs.Place.{Spot}
 use Rattle.world_model.proofs.Kept.{gave-keeps}
 use Rattle.world_model.specs.Gave as model
 use Rattle.world_model.specs.IsWorld.{IsWorld}
 use Rattle.world_model.specs.Message.{tentative, unsettled}
-use Rattle.world_model.specs.rows.Attempts.{does_local}
+use Rattle.world_model.specs.rows.Attempts.{does_local, mails_done}
 use Rattle.world_model.specs.World as world
-use Rattle.world_model.specs.World.{World, attempt_sends, held_sends, is_empty, kept_sends, put_last, with_at}
+use Rattle.world_model.specs.World.{World, attempt_sends, held_sends, is_empty, kept_sends, line, put_last, with_at}
 use Rattle.world_model.specs.World.{is_some as is_there}
 
--- what the root has done once it has sent that: just that more
-abbrev sent_effect : Task → Name → List Value → Effect
-sent_effect t to args = record { task = t.log.log.name; number = t.log.log.own; what = what.Send to args }
-
-sends-more : (refs : Name → Option Value) (moved : Evaluation) (outer : Option Value) (tree after : Attempt) (t : Task) (to : Name) (args : List Value) (at : Spot) (went : Stepped) → named tree.root tree.tasks ≡ Some t
-    → Comes refs tree.root moved outer (halt.Ask (request.Send to args) at) tree after went → after.root ≡ tree.root → done_by_root after ≡ t.log.log.effects ++ sent_effect t to args ∷ []
-sends-more refs moved outer tree after t to args at went there is root = on is.reply (is.replies_so t there) is.came
-  where
-    on : (reply : Answered) → replies refs t.log (request.Send to args) ≡ Some (reply, is.log) → CameReply tree.root moved (request.Send to args) reply is.log tree.tasks tree.reads after.tasks after.reads went
-        → done_by_root after ≡ t.log.log.effects ++ sent_effect t to args ∷ []
-    on (answered.Now given) so came =
-        let changed = came.tasks t there in
-        ap done_in (ap (λ n. named n after.tasks) root ∙ ap (named tree.root) changed.put ∙ named-here tree.root changed.item tree.tasks)
-        ∙ ap (λ (k : Task). k.log.log.effects) changed.related
-        ∙ ap (λ (l : SnapshotTask). l.log.effects) (sym (log-of so))
-      where
-        log-of : replies refs t.log (request.Send to args) ≡ Some (answered.Now given, is.log) → with_log t.log (with_effect t.log.log (what.Send to args)) ≡ is.log
-        log-of so = let both : acts t.log (request.Send to args) (answer.Value value.Nil) ≡ (answered.Now given, is.log) = cc in ap (λ (r : Reply). r.1) both
-    on (answered.NotInSnapshot ref) so came =
-        let both : acts t.log (request.Send to args) (answer.Value value.Nil) ≡ (answered.NotInSnapshot ref, is.log) = cc in
-        let no : answered.Now (answer.Value value.Nil) ≡ answered.NotInSnapshot ref = ap (λ (r : Reply). r.0) both in cc
-
-module _ (old : Shared) (st : Bears old) (on_going : is_going old.end ≡ true) (u task : Name) (tree : Attempt) (there : named u old.attempts ≡ Some tree) (machine : Evaluation) (is : machine_of tree task ≡ Some machine) (new : Shared) (g : StepsSending old u task tree machine new) where
+module _ (old : Shared) (st : Stands old) (on_going : is_going old.end ≡ true) (u task : Name) (tree : Attempt) (there : named u old.attempts ≡ Some tree) (machine : Evaluation) (is : machine_of tree task ≡ Some machine) (g : HasStepped old task tree machine) where
   abbrev w : World
   w = st.world
 
   abbrev way : IsUnderWay old u tree
   way = st.attempts on_going u tree there
 
-  abbrev halts : Halt
-  halts = halt_of old.setup.program machine
-
-  -- the attempt as it is seen
-  record IsTried : Type 0 where
-    tried : world.Attempt
-    at : w.attempts u ≡ Some tried
-    is_seen : IsSeenAttempt old.versions tree tried
-
-  seen-tried : IsTried
-  seen-tried = on (w.attempts u) refl (subst (λ f. AttemptSeen old.versions f (w.attempts u)) there (st.seen.attempts on_going u))
-    where
-      on : (found : Option world.Attempt) → w.attempts u ≡ found → AttemptSeen old.versions (Some tree) found → IsTried
-      on None e seen = absurd seen
-      on (Some tried) e seen = record { tried = tried; at = e; is_seen = seen }
+  abbrev seen-tried : SeenAs old w u tree
+  seen-tried = seen-as old st on_going u tree there
 
   abbrev tried : world.Attempt
   tried = seen-tried.tried
 
-  abbrev after : Shared
-  after = record old { attempts = with_named old.attempts u g.after; mails = g.mails; board = g.board }
+  -- the unit, as it is seen
+  live : w.units u ≡ Some (live_with (named u old.aheads) way.unit)
+  live = st.seen.units u ∙ ap (option_map (live_with (named u old.aheads))) way.there
 
-  -- with more that its root has done, and that mail, it is what is kept
-  bears : (more : List Effect) (mails : Name → List Message) → done_by_root g.after ≡ done_by_root tree ++ more → IsWorld old.setup (record w { attempts = with_at w.attempts u (Some (having_done tried (tried.effects ++ more))); mails = mails })
-      → ((a : Name) → mails a ≡ mail_at g.mails a) → SameStates old.board g.board → SameActors old.board g.board → EachMachine (IsMachine old.setup) g.board → Bears after
-  bears more mails done is_world mails_so same same_actors machines = record {
-    formed = st.formed;
-    world = record w { attempts = with_at w.attempts u (Some (having_done tried (tried.effects ++ more))); mails = mails };
-    is_world = is_world;
-    seen = record {
-      history = st.seen.history;
-      refs = st.seen.refs;
-      units = λ q. st.seen.units q ∙ sym (ap (option_map (live_with (named q old.aheads))) (same q));
-      actors = λ a. st.seen.actors a ∙ sym (same_actors a);
-      taken = st.seen.taken;
-      mails = mails_so;
-      attempts = λ go v. subst (λ f. AttemptSeen old.versions f (cond (same_name v u) (Some (having_done tried (tried.effects ++ more))) (w.attempts v))) (sym (named-with_named v u g.after old.attempts)) (seen v (same_name v u));
-      bytes = st.seen.bytes;
-      made = st.seen.made;
-      end = st.seen.end;
-    };
-    machines = machines;
-    attempts = λ go v other at. on v other (same_name v u) refl (sym (named-with_named v u g.after old.attempts) ∙ at);
-    numbers = st.numbers;
-    aheads = λ v h leads. ahead-still old.board g.board v h (same v) (st.aheads v h leads);
+  held-so : (to : Name) (h : Option Ahead) → held_sends u to (Some (live_with h way.unit)) ≡ held_to u to h
+  held-so to None = refl
+  held-so to (Some h) = refl
+
+  -- the world, where the root has done these, with the mail of what is kept
+  record IsAlong (s : Shared) (es : List Effect) : Type 0 where
+    at : World
+    is_world : IsWorld old.setup at
+    rest : at ≡ record w { attempts = at.attempts; mails = at.mails }
+    here : at.attempts u ≡ Some (having_done tried es)
+    others : (v : Name) → same_name v u ≡ false → at.attempts v ≡ w.attempts v
+    mails : (a : Name) → at.mails a ≡ mail_at s.mails a
+    taken : s.taken ≡ old.taken
+    aheads : s.aheads ≡ old.aheads
+    actors : (a : Name) → actor_at s.board a ≡ actor_at old.board a
+
+  -- before the step
+  first : IsAlong old (done_by_root tree)
+  first = record {
+    at = record w { attempts = with_at w.attempts u (Some (having_done tried (done_by_root tree))) };
+    is_world = subst (λ (es : List Effect). IsWorld old.setup (record w { attempts = with_at w.attempts u (Some (having_done tried es)) })) (append-nil tried.effects ∙ seen-tried.is.effects) (does-more old.setup w st.is_world u tried seen-tried.there []);
+    rest = refl;
+    here = ap (λ c. cond c (Some (having_done tried (done_by_root tree))) (w.attempts u)) (same_name-itself u);
+    others = λ v not. ap (λ c. cond c (Some (having_done tried (done_by_root tree))) (w.attempts v)) not;
+    mails = st.seen.mails;
+    taken = refl;
+    aheads = refl;
+    actors = λ a. refl;
   }
-    where
-      seen : (v : Name) (c : Bool) → AttemptSeen old.versions (cond c (Some g.after) (named v old.attempts)) (cond c (Some (having_done tried (tried.effects ++ more))) (w.attempts v))
-      seen v true = seen-stepped old.versions tree g.after tried (tried.effects ++ more) g.step.stays seen-tried.is_seen (ap (λ es. es ++ more) seen-tried.is_seen.effects ∙ sym done)
-      seen v false = st.seen.attempts on_going v
 
-      grows : (f : Name) (v : Value) → finished_at old.board f ≡ Some v → finished_at g.board f ≡ Some v
-      grows f v fin = ap (option_and_then (λ (k : UnitState). k.finished)) (same f) ∙ fin
+  -- the root has done one effect more, and the mail is that of the world which is there then
+  module _ (s new : Shared) (es : List Effect) (e : Effect) (along : IsAlong s es) (taken : new.taken ≡ s.taken) (aheads : new.aheads ≡ s.aheads) (actors : (a : Name) → actor_at new.board a ≡ actor_at s.board a) where
+    abbrev after : World
+    after = does_local along.at u (having_done tried es) e
 
-      own : IsUnderWay after u g.after
-      own = under-way (record old { attempts = with_named old.attempts u g.after }) after u g.after refl (same u) (λ ref. refl) grows (le_refl (length old.history)) (step-way old st.formed u task tree way machine g.moved is g.same g.of g.after g.went g.step)
+    next : ((a : Name) → after.mails a ≡ mail_at new.mails a) → IsAlong new (es ++ e ∷ [])
+    next mails = record {
+      at = after;
+      is_world = gave-keeps old.setup st.formed along.at after None along.is_world (model.goes_on u (having_done tried es) (e ∷ []) along.here);
+      rest = ap (λ (k : World). record k { attempts = after.attempts; mails = after.mails }) along.rest;
+      here = ap (λ c. cond c (Some (having_done tried (es ++ e ∷ []))) (along.at.attempts u)) (same_name-itself u);
+      others = λ v not. ap (λ c. cond c (Some (having_done tried (es ++ e ∷ []))) (along.at.attempts v)) not ∙ along.others v not;
+      mails = mails;
+      taken = taken ∙ along.taken;
+      aheads = aheads ∙ along.aheads;
+      actors = λ a. actors a ∙ along.actors a;
+    }
 
-      on : (v : Name) (other : Attempt) (c : Bool) → same_name v u ≡ c → cond c (Some g.after) (named v old.attempts) ≡ Some other → IsUnderWay after v other
-      on v other true is_u e = let so : g.after ≡ other = cc in subst (λ q. IsUnderWay after q other) (sym (same_name-equal v u is_u)) (subst (IsUnderWay after u) so own)
-      on v other false is_u e = under-way old after v other refl (same v) (λ ref. refl) grows (le_refl (length old.history)) (st.attempts on_going v other e)
-
-  -- nothing is put
-  keeps : SameMail old.mails g.mails → SamePieces old.board g.board → Bears after
-  keeps same_mail pieces = bears (step-grown old st.formed u task tree way machine g.moved is g.same g.of g.after g.went g.step).grown.more w.mails
-      (done-so old st.formed u task tree way machine g.moved is g.same g.of g.after g.went g.step)
-      (does-more old.setup w st.is_world u tried seen-tried.at (step-grown old st.formed u task tree way machine g.moved is g.same g.of g.after g.went g.step).grown.more)
-      (λ a. st.seen.mails a ∙ sym (same_mail a)) (same-pieces old.board g.board pieces) (same-pieces-actors old.board g.board pieces) (machines-same (IsMachine old.setup) old.board g.board pieces st.machines)
-
-  -- ---- a send of the root is put
-  module _ (to : Name) (args : List Value) (at : Spot) (of_root : task ≡ tree.root) (asks : halts ≡ halt.Ask (request.Send to args) at) (p : IsPosted old u tree to args g.mails g.board) where
-    abbrev root : (t : Task) × (named tree.root tree.tasks ≡ Some t)
-    root = root-in old u tree way
-
-    abbrev effect : Effect
-    effect = sent_effect root.0 to args
-
+  -- ---- a send
+  module _ (s : Shared) (es : List Effect) (along : IsAlong s es) (sends : List Send) (sends_are : sends ≡ sends_in es) (to : Name) (args : List Value) where
     abbrev message : Message
-    message = tentative u tried.root args
+    message = tentative u tree.root args
 
-    done : done_by_root g.after ≡ done_by_root tree ++ effect ∷ []
-    done =
-        sends-more (snapshot_of old.versions tree.snapshot) g.moved (outer_of old.board halts) tree g.after root.0 to args at g.went root.1
-        (subst (λ h. Comes (snapshot_of old.versions tree.snapshot) tree.root g.moved (outer_of old.board halts) h tree g.after g.went) asks
-        (subst (λ n. Comes (snapshot_of old.versions tree.snapshot) n g.moved (outer_of old.board halts) halts tree g.after g.went) of_root g.step.comes)) g.step.stays.root
-        ∙ ap (λ es. es ++ effect ∷ []) (sym (ap done_in root.1))
+    line-so : line along.at to ≡ one_or_none (named to s.taken) ++ mail_at s.mails to
+    line-so = ap₂ (λ ts ms. ts ++ ms) (ap (λ (k : World). k.taken to) along.rest ∙ st.seen.taken to ∙ ap (λ ts. one_or_none (named to ts)) (sym along.taken)) (along.mails to)
 
-    -- the unit, as it is seen
-    live : w.units u ≡ Some (live_with (named u old.aheads) way.unit)
-    live = st.seen.units u ∙ ap (option_map (live_with (named u old.aheads))) way.there
+    pending : held_sends u to (along.at.units u) ++ attempt_sends u to (along.at.attempts u) ≡ held_to u to (named u s.aheads) ++ map (tentative u tree.root) (args_to to sends)
+    pending =
+        ap₂ (λ own sent. own ++ sent)
+        (ap (held_sends u to) (ap (λ (k : World). k.units u) along.rest ∙ live) ∙ held-so to (named u old.aheads) ∙ ap (λ hs. held_to u to (named u hs)) (sym along.aheads))
+        (ap (attempt_sends u to) along.here ∙ ap₂ (λ n all. map (tentative u n) all) seen-tried.is.root (sym (args-in to es) ∙ ap (args_to to) (sym sends_are)))
 
-    held-so : (h : Option Ahead) → held_sends u to (Some (live_with h way.unit)) ≡ held_to u to h
-    held-so None = refl
-    held-so (Some h) = refl
+    kept-so : kept_sends along.at u to ≡ kept_by s u tree.root sends to
+    kept-so = ap₂ (λ ms all. drop (length (unsettled u ms)) all) line-so pending
 
-    none-kept : kept_sends w u to ≡ []
-    none-kept =
-        ap₂ (λ ms all. drop (length (unsettled u ms)) all) (ap₂ (λ taken mail. taken ++ mail) (st.seen.taken to) (st.seen.mails to))
-        (ap₂ (λ found k. held_sends u to found ++ attempt_sends u to k) live seen-tried.at
-        ∙ ap₂ (λ own sent. own ++ sent) (held-so (named u old.aheads)) (ap₂ (λ n es. map (tentative u n) (effects_to to es)) seen-tried.is_seen.root seen-tried.is_seen.effects))
-        ∙ p.none_kept
+    actor-so : along.at.actors to ≡ actor_at s.board to
+    actor-so = ap (λ (k : World). k.actors to) along.rest ∙ st.seen.actors to ∙ sym (along.actors to)
 
-    mails-put : (a : Name) → (does_local w u tried effect).mails a ≡ put_last w to message a
-    mails-put a = ap₂ (λ found ms. cond (is_there found) (cond (is_empty ms) (put_last w to message) w.mails) w.mails a) (st.seen.actors to ∙ p.there) none-kept
+    -- where it comes to
+    abbrev put_at : Option ActorState → List Message → Name → List Message
+    put_at found kept = cond (is_there found) (cond (is_empty kept) (put_last along.at to (tentative u tried.root args)) along.at.mails) along.at.mails
 
-    in-mail : (a : Name) (c : Bool) → same_name a to ≡ c → cond c (w.mails to ++ message ∷ []) (w.mails a) ≡ mail_at g.mails a
-    in-mail a true e = ap₂ (λ ms n. ms ++ tentative u n args ∷ []) (st.seen.mails to) seen-tried.is_seen.root ∙ sym p.mailed.here ∙ ap (mail_at g.mails) (sym (same_name-equal a to e))
-    in-mail a false e = st.seen.mails a ∙ sym (p.mailed.others a (not-same a to e))
+    put-so : (new : Shared) → IsPosted s u tree.root sends to args new → (a : Name) → put_at (along.at.actors to) (kept_sends along.at u to) a ≡ mail_at new.mails a
+    put-so new p a = ap₂ (λ found kept. put_at found kept a) (actor-so ∙ p.there) (kept-so ∙ p.none_kept) ∙ in-mail (same_name a to) refl ∙ ap (λ (k : Shared). mail_at k.mails a) (sym p.others)
+      where
+        in-mail : (c : Bool) → same_name a to ≡ c → cond c (along.at.mails to ++ tentative u tried.root args ∷ []) (along.at.mails a) ≡ mail_at p.mails a
+        in-mail true e = ap₂ (λ ms n. ms ++ tentative u n args ∷ []) (along.mails to) seen-tried.is.root ∙ sym p.mailed.here ∙ ap (mail_at p.mails) (sym (same_name-equal a to e))
+        in-mail false e = along.mails a ∙ sym (p.mailed.others a (not-same a to e))
 
-    abbrev begun : Bool
-    begun = is_some (named to old.taken)
+    keep-so : (new : Shared) → (actor_at s.board to ≡ None) ⊎ (kept_by s u tree.root sends to ≡ [] → ⊥) → new ≡ s → (a : Name) → put_at (along.at.actors to) (kept_sends along.at u to) a ≡ mail_at new.mails a
+    keep-so new why same a = stays why ∙ along.mails a ∙ ap (λ (k : Shared). mail_at k.mails a) (sym same)
+      where
+        full : (kept : List Message) → (kept ≡ [] → ⊥) → cond (is_empty kept) (put_last along.at to (tentative u tried.root args)) along.at.mails a ≡ along.at.mails a
+        full [] some = absurd (some refl)
+        full (m ∷ ms) some = refl
 
-    posted : Bears after
-    posted = bears (effect ∷ []) (does_local w u tried effect).mails done (gave-keeps old.setup st.formed w (does_local w u tried effect) None st.is_world (model.goes_on u tried (effect ∷ []) seen-tried.at))
-        (λ a. mails-put a ∙ in-mail a (same_name a to) refl)
-        (states-put to (roused_unless begun (piece_at old.board to)) old.board g.board (roused-state begun (piece_at old.board to)) p.rouses)
-        (actors-put to (roused_unless begun (piece_at old.board to)) old.board g.board (roused-same begun (piece_at old.board to)) p.rouses)
-        (machines-put (IsMachine old.setup) to (roused_unless begun (piece_at old.board to)) old.board g.board (λ z e. st.machines to z (sym (roused-is begun (piece_at old.board to)) ∙ e)) p.rouses st.machines)
+        there-or-not : (found : Option ActorState) → (kept_sends along.at u to ≡ [] → ⊥) → put_at found (kept_sends along.at u to) a ≡ along.at.mails a
+        there-or-not None some = refl
+        there-or-not (Some actor) some = full (kept_sends along.at u to) some
 
-  pub steps-sending : Bears new
-  steps-sending = subst Bears (sym g.others) (by g.posts)
+        stays : (actor_at s.board to ≡ None) ⊎ (kept_by s u tree.root sends to ≡ [] → ⊥) → put_at (along.at.actors to) (kept_sends along.at u to) a ≡ along.at.mails a
+        stays (inl none) = ap (λ found. put_at found (kept_sends along.at u to) a) (actor-so ∙ none)
+        stays (inr some) = there-or-not (along.at.actors to) (λ e. some (sym kept-so ∙ e))
+
+  -- ---- one effect after another
+  abbrev GoesAlong : List Effect → Type 0
+  GoesAlong es = (done : List Effect) (s new : Shared) → IsAlong s done → (sends : List Send) → sends ≡ sends_in done → Posts s u tree.root sends (sends_in es) new → IsAlong new (done ++ es)
+
+  along-next : (e : Effect) (es : List Effect) → GoesAlong es → GoesAlong (e ∷ es)
+  along-next e es goes-on done s new along sends same is = on e.what refl is
     where
-      by : Posts old u tree task halts g.mails g.board → Bears after
-      by (row.put to args at of_root asks p) = posted to args at of_root asks p
-      by (row.keep why same_mail pieces) = keeps same_mail pieces
+      then : (mid : Shared) → IsAlong mid (done ++ e ∷ []) → (sent : List Send) → sent ≡ sends_in (done ++ e ∷ []) → Posts mid u tree.root sent (sends_in es) new → IsAlong new (done ++ e ∷ es)
+      then mid there sent sent_is rest = subst (λ l. IsAlong new l) (append_assoc done (e ∷ []) es) (goes-on (done ++ e ∷ []) mid new there sent sent_is rest)
+
+      quiet : (w : What) → e.what ≡ w → ((a : Name) → (does_local along.at u (having_done tried done) e).mails a ≡ along.at.mails a) → send_in w ≡ [] → Posts s u tree.root sends (sends_in es) new → IsAlong new (done ++ e ∷ es)
+      quiet w is_w no_mail none rest = then s (next s s done e along refl refl (λ a. refl) (λ a. no_mail a ∙ along.mails a)) sends
+          (same ∙ sym (append-nil (sends_in done)) ∙ ap (λ l. sends_in done ++ l) (sym (append-nil (send_in e.what) ∙ ap send_in is_w ∙ none)) ∙ sym (sends-append done (e ∷ []))) rest
+
+      on : (w : What) → e.what ≡ w → Posts s u tree.root sends (send_in w ++ sends_in es) new → IsAlong new (done ++ e ∷ es)
+      on (what.Bytes text) is_w rest = quiet (what.Bytes text) is_w (λ a. ap (λ k. mails_done along.at u (having_done tried done) k a) is_w) refl rest
+      on (what.Spawn name behaviour state) is_w rest = quiet (what.Spawn name behaviour state) is_w (λ a. ap (λ k. mails_done along.at u (having_done tried done) k a) is_w) refl rest
+      on (what.Become behaviour state) is_w rest = quiet (what.Become behaviour state) is_w (λ a. ap (λ k. mails_done along.at u (having_done tried done) k a) is_w) refl rest
+      on (what.Send to args) is_w rest = by rest.1
+        where
+          way_to : IsPosting s rest.0
+          way_to = posting-one s u tree.root sends to args rest.0 rest.1
+
+          mails_so : ((a : Name) → put_at s done along sends same to args (along.at.actors to) (kept_sends along.at u to) a ≡ mail_at rest.0.mails a) → (a : Name) → (does_local along.at u (having_done tried done) e).mails a ≡ mail_at rest.0.mails a
+          mails_so so a = ap (λ k. mails_done along.at u (having_done tried done) k a) is_w ∙ so a
+
+          go : ((a : Name) → (does_local along.at u (having_done tried done) e).mails a ≡ mail_at rest.0.mails a) → IsAlong new (done ++ e ∷ es)
+          go mails = then rest.0
+              (next s rest.0 done e along (ap (λ (k : Shared). k.taken) (posting-rest s rest.0 way_to)) (ap (λ (k : Shared). k.aheads) (posting-rest s rest.0 way_to)) way_to.actors mails)
+              (sends ++ (to, args) ∷ []) (ap (λ l. l ++ (to, args) ∷ []) same ∙ ap (λ k. sends_in done ++ k) (sym (append-nil (send_in e.what) ∙ ap send_in is_w)) ∙ sym (sends-append done (e ∷ []))) rest.2
+
+          by : PutOrKept s u tree.root sends to args rest.0 → IsAlong new (done ++ e ∷ es)
+          by (row.put p) = go (mails_so (put-so s done along sends same to args rest.0 p))
+          by (row.keep why is_same) = go (mails_so (keep-so s done along sends same to args rest.0 why is_same))
+
+  along-posts : (es : List Effect) → GoesAlong es
+  along-posts [] = λ done s new along sends same is. subst (λ l. IsAlong new l) (sym (append-nil done)) (subst (λ k. IsAlong k done) (sym is) along)
+  along-posts (e ∷ es) = along-next e es (along-posts es)
+
+  -- ---- what stands then
+  module _ (mid : Shared) (posts : Posts old u tree.root (sends_in (done_by_root tree)) (sends_in g.more) mid) where
+    abbrev p : IsPosting old mid
+    p = posting old u tree.root (sends_in (done_by_root tree)) (sends_in g.more) mid posts
+
+    abbrev along : IsAlong mid (done_by_root tree ++ g.more)
+    along = along-posts g.more (done_by_root tree) old mid first (sends_in (done_by_root tree)) refl posts
+
+    abbrev stepped : Shared
+    stepped = record old { attempts = with_named old.attempts u g.after; mails = mid.mails; board = mid.board }
+
+    seen : (v : Name) (c : Bool) → same_name v u ≡ c → AttemptSeen old.versions (cond c (Some g.after) (named v old.attempts)) (along.at.attempts v)
+    seen v true e = subst (AttemptSeen old.versions (Some g.after)) (sym (ap along.at.attempts (same_name-equal v u e) ∙ along.here)) (seen-stepped old.versions tree g.after tried (done_by_root tree ++ g.more) g.step.stays seen-tried.is (sym g.does))
+    seen v false e = subst (AttemptSeen old.versions (named v old.attempts)) (sym (along.others v e)) (st.seen.attempts on_going v)
+
+    grows : (f : Name) (v : Value) → finished_at old.board f ≡ Some v → finished_at mid.board f ≡ Some v
+    grows f v fin = ap (option_and_then (λ (k : UnitState). k.finished)) (p.states f) ∙ fin
+
+    own : IsUnderWay stepped u g.after
+    own = under-way (record old { attempts = with_named old.attempts u g.after }) stepped u g.after refl (p.states u) (λ ref. refl) grows (le_refl (length old.history)) (step-way old st.formed u task tree way machine g.moved is g.same g.of g.after g.went g.step)
+
+    attempts : (v : Name) (other : Attempt) (c : Bool) → same_name v u ≡ c → cond c (Some g.after) (named v old.attempts) ≡ Some other → IsUnderWay stepped v other
+    attempts v other true is_u e = let so : g.after ≡ other = cc in subst (λ q. IsUnderWay stepped q other) (sym (same_name-equal v u is_u)) (subst (IsUnderWay stepped u) so own)
+    attempts v other false is_u e = under-way old stepped v other refl (p.states v) (λ ref. refl) grows (le_refl (length old.history)) (st.attempts on_going v other e)
+
+    stands : Stands stepped
+    stands = record {
+      formed = st.formed;
+      world = along.at;
+      is_world = along.is_world;
+      seen = record {
+        history = ap (λ (k : World). k.history) along.rest ∙ st.seen.history;
+        refs = λ r. ap (λ (k : World). k.refs r) along.rest ∙ st.seen.refs r;
+        units = λ q. ap (λ (k : World). k.units q) along.rest ∙ st.seen.units q ∙ sym (ap (option_map (live_with (named q old.aheads))) (p.states q));
+        actors = λ a. ap (λ (k : World). k.actors a) along.rest ∙ st.seen.actors a ∙ sym (p.actors a);
+        taken = λ a. ap (λ (k : World). k.taken a) along.rest ∙ st.seen.taken a;
+        mails = along.mails;
+        attempts = λ go v. subst (λ f. AttemptSeen old.versions f (along.at.attempts v)) (sym (named-with_named v u g.after old.attempts)) (seen v (same_name v u) refl);
+        bytes = ap (λ (k : World). k.bytes) along.rest ∙ st.seen.bytes;
+        made = ap (λ (k : World). k.made) along.rest ∙ st.seen.made;
+        end = ap (λ (k : World). k.end) along.rest ∙ st.seen.end;
+      };
+      machines = p.machines st.machines;
+      attempts = λ go v other at. attempts v other (same_name v u) refl (sym (named-with_named v u g.after old.attempts) ∙ at);
+      numbers = st.numbers;
+      aheads = λ v h leads. ahead-still old.board mid.board v h (p.states v) (st.aheads v h leads);
+    }
+
+    -- what is kept stands, once the task has taken the step and what its root sent by it is put or kept
+    pub posted : Stands (record mid { attempts = with_named mid.attempts u g.after })
+    posted = subst (λ (k : Shared). Stands (record k { attempts = with_named k.attempts u g.after })) (sym (posting-rest old mid p)) stands
+
+  -- by a step, whatever that ends
+  pub posted-by : (ended : Option TaskEnd) (ahead : Option Ahead) (mid : Shared) → StepPosts ended ahead old u tree.root (sends_in (done_by_root tree)) (sends_in g.more) mid → Stands (record mid { attempts = with_named mid.attempts u g.after })
+  posted-by None ahead mid posts = posted mid posts
+  posted-by (Some e) (Some h) mid posts = posted mid posts
+  posted-by (Some e) None mid same = subst (λ (k : Shared). Stands (record k { attempts = with_named k.attempts u g.after })) (sym same) (stepped-on old st on_going u task tree there machine g.moved is g.same g.of g.after g.went g.step)

@@ -14,25 +14,31 @@ use Rattle.serial_model.specs.declared.entry.Entry.TheVariants.{Run, Take}
 use Rattle.serial_model.specs.declared.halt.Halt.{Halt}
 use Rattle.serial_model.specs.declared.halt.Halt.TheVariants as halt
 use Rattle.serial_model.specs.declared.request.Request.TheVariants as request
-use Rattle.serial_model.specs.Sends.{effects_to}
 use Rattle.serial_model.specs.Step.{next_made, next_of}
+use Rattle.shared_world.proofs.Posting.{IsPosting, step-posting, posting-rest, posting-unfinished}
 use Rattle.shared_world.specs.declared.given.Given.{Given}
 use Rattle.shared_world.specs.declared.given.Given.TheVariants as given
 use Rattle.shared_world.specs.Gave.{GaveTask, GaveUnit}
 use Rattle.shared_world.specs.rows.Actors.{acted, roused_unless, spawned}
-use Rattle.shared_world.specs.rows.Attempts.{Aborts, IsWithout, TasksGo}
+use Rattle.shared_world.specs.rows.Attempts.{IsWithout, TasksGo}
+use Rattle.shared_world.specs.rows.Commits.{definite_if, turns_on}
+use Rattle.shared_world.specs.rows.Leading.{mark_settles}
 use Rattle.shared_world.specs.rows.Pieces.{Ends, IsSet, Settles, task_gone}
+use Rattle.shared_world.specs.rows.Sending.{sends_in}
 use Rattle.shared_world.specs.rows.Tasks as row
 use Rattle.shared_world.specs.rows.Tasks.{AfterStep, EndGives, IsMarkedTask, Missing, RootGives, StepGives, TaskGives, WaitsForTurn}
 use Rattle.shared_world.specs.rows.Turns.{GaveActor, TakesIfAllowed}
+use Rattle.shared_world.specs.rows.Undoing.{Aborts, piece_left, root_gone}
 use Rattle.shared_world.specs.rows.Units.{Becomes, Derefs, Finishes, ForksIfAllowed, Joins, Selves, Tries, UnitGives}
-use Rattle.shared_world.specs.Shared.{Shared, actor_of, finished_at, ref_now, unit_state}
+use Rattle.shared_world.specs.Seen.{done_by_root}
+use Rattle.shared_world.specs.rows.Unsettled.{kept_to}
+use Rattle.shared_world.specs.Shared.{Shared, actor_of, finished_at, ref_now, tree_with, unit_state}
 use Rattle.task_fork_join.specs.Attempt.{Attempt, end_at, machine_of}
 use Rattle.task_fork_join.specs.declared.stepped.Stepped.{Stepped}
 use Rattle.task_fork_join.specs.declared.stepped.Stepped.TheVariants as stepped_as
 use Rattle.task_fork_join.specs.declared.task_end.TaskEnd.{TaskEnd}
 use Rattle.task_fork_join.specs.declared.task_end.TaskEnd.TheVariants as end
-use Rattle.unit_table.specs.Board.{Board, IsPutAt, SamePieces, is_unfinished, piece_at}
+use Rattle.unit_table.specs.Board.{Board, IsPutAt, SamePieces, is_unfinished, lent_at, piece_at}
 use Rattle.unit_table.specs.declared.mark.Mark.{Mark}
 use Rattle.unit_table.specs.declared.mark.Mark.TheVariants as mark
 use Rattle.unit_table.specs.declared.mark.Work.TheVariants as work
@@ -129,10 +135,30 @@ go-opens u y tree old new go was n is = on (same_name n u) refl
     on true e = subst (λ k. is_unfinished old k ≡ true) (sym (same_name-equal n u e)) was
     on false e = gone-open (is_some (named n tree.tasks)) (piece_at old n) (ap (holds_at goes_on) (sym (go.others n (apart-of n u e))) ∙ is)
 
-acted-opens : (begun : Bool) (state : Option ActorState) (sent : List (List Value)) (mail : _) (found : Option Piece) → holds_at goes_on (acted begun state sent mail found) ≡ true → holds_at goes_on found ≡ true
-acted-opens begun (Some state) sent mail found is = never is
+acted-opens : (begun : Bool) (state : Option ActorState) (last mail : List Message) (found : Option Piece) → holds_at goes_on (acted begun state last mail found) ≡ true → holds_at goes_on found ≡ true
+acted-opens begun (Some state) last mail found is = never is
 acted-opens begun None [] mail found is = is
-acted-opens begun None (args ∷ more) mail found is = roused-open begun found is
+acted-opens begun None (m ∷ ms) mail found is = roused-open begun found is
+
+-- a turn that has become definite was not finished where it is not
+settles-opens : (lent : Bool) (m : Mark) → not (says_finished (mark_settles lent m)) ≡ not (says_finished m)
+settles-opens true (mark.Ready work.Eval) = refl
+settles-opens false (mark.Ready work.Eval) = refl
+settles-opens true (mark.Ready work.Settle) = refl
+settles-opens false (mark.Ready work.Settle) = refl
+settles-opens true (mark.Ready work.Begin) = refl
+settles-opens false (mark.Ready work.Begin) = refl
+settles-opens lent (mark.Waiting on) = refl
+settles-opens lent mark.Resting = refl
+settles-opens lent (mark.Finished v) = refl
+settles-opens lent mark.Dropped = refl
+
+definite-opens : (so lent : Bool) (found : Option Piece) → holds_at goes_on (definite_if so lent found) ≡ true → holds_at goes_on found ≡ true
+definite-opens false lent found is = is
+definite-opens true lent None is = is
+definite-opens true lent (Some (piece.Unit x)) is = sym (settles-opens lent x.mark) ∙ is
+definite-opens true lent (Some (piece.Task m)) is = is
+definite-opens true lent (Some (piece.Actor a)) is = is
 
 -- ---- what an answer spreads
 -- An entry that is settled is of that unit. A unit that is not finished was not before, but for the one that is made where an entry is
@@ -325,9 +351,31 @@ module _ (base : Shared) (u : Name) (x : Unit) (was : is_unfinished base.board u
   aborts-spread : (ref : Name) (version : _) → Aborts base u x tree ref version found new → TaskSpread
   aborts-spread ref version r = record {
     entry = λ e so. let no = sym r.found_is ∙ so in cc;
-    opens = go-opens u r.unit tree base.board new.board r.goes.tasks was;
-    tries = gone-tries r.goes.attempts;
+    opens = λ n unfinished. opens n unfinished (same_name n u) refl;
+    tries = λ v some. left-some (root_gone r.undoes.gone (named v base.attempts)) (named v base.attempts) (subst IsSome (r.undoes.attempts v) some);
   }
+    where
+      left-some : (c : Bool) (found : Option Attempt) → IsSome (cond c None found) → IsSome found
+      left-some true found is = cc
+      left-some false found is = is
+
+      left-open : (n : Name) (found : Option Piece) → holds_at goes_on (piece_left base r.undoes.gone new n found) ≡ true → holds_at goes_on found ≡ true
+      left-open n None is = is
+      left-open n (Some (piece.Unit y)) is = on (r.undoes.gone n) is
+        where
+          on : (c : Bool) → holds_at goes_on (cond c None (Some (piece.Unit y))) ≡ true → goes_on (piece.Unit y) ≡ true
+          on true e = cc
+          on false e = e
+      left-open n (Some (piece.Task m)) is = on (root_gone r.undoes.gone (tree_with base n)) is
+        where
+          on : (c : Bool) → holds_at goes_on (cond c None (Some (piece.Task m))) ≡ true → goes_on (piece.Task m) ≡ true
+          on true e = cc
+          on false e = e
+      left-open n (Some (piece.Actor a)) is = is
+
+      opens : (n : Name) → is_unfinished new.board n ≡ true → (c : Bool) → same_name n u ≡ c → is_unfinished base.board n ≡ true
+      opens n unfinished true e = ap (is_unfinished base.board) (same_name-equal n u e) ∙ was
+      opens n unfinished false e = left-open n (piece_at base.board n) (ap (holds_at goes_on) (sym (r.undoes.pieces.others n (apart-of n u e))) ∙ unfinished)
 
   task-ends-spread : (e : _) → Ends base u e found new → TaskSpread
   task-ends-spread e r = record {
@@ -340,7 +388,8 @@ module _ (base : Shared) (u : Name) (x : Unit) (was : is_unfinished base.board u
   end-spread (end.Value v) r = record {
     entry = of-unit u found r.found_is;
     opens = none-opens-then base.board r.board new.board (go-opens u r.unit tree base.board r.board r.goes.tasks was)
-        (λ n is. acted-opens (is_some (named n base.taken)) (spawned r.log.log.effects n) (effects_to n r.log.log.effects) _ (piece_at r.board n) (ap (holds_at goes_on) (sym (r.acts.pieces n)) ∙ is));
+        (λ n is. definite-opens (turns_on base tree.root n) (is_some (lent_at base.board n)) (piece_at r.board n)
+        (acted-opens (is_some (named n base.taken)) (spawned r.log.log.effects n) (kept_to base u tree n) _ (definite_if (turns_on base tree.root n) (is_some (lent_at base.board n)) (piece_at r.board n)) (ap (holds_at goes_on) (sym (r.acts.pieces n)) ∙ is)));
     tries = gone-tries r.goes.attempts;
   }
   end-spread (end.Fault code at) r = task-ends-spread _ r
@@ -371,10 +420,10 @@ module _ (base : Shared) (u : Name) (x : Unit) (was : is_unfinished base.board u
   after-spread task went (Some e) r = root-spread task e r
 
 -- the attempt took a step first
-moved-spread : (old : Shared) (u : Name) (after : Attempt) (found : Given) (new : Shared) → IsSome (named u old.attempts) → IsTaskSpread (record old { attempts = with_named old.attempts u after }) u found new → IsTaskSpread old u found new
-moved-spread old u after found new tried is = record {
+moved-spread : (old mid : Shared) → IsPosting old mid → (u : Name) (after : Attempt) (found : Given) (new : Shared) → IsSome (named u old.attempts) → IsTaskSpread (record mid { attempts = with_named old.attempts u after }) u found new → IsTaskSpread old u found new
+moved-spread old mid p u after found new tried is = record {
   entry = is.entry;
-  opens = is.opens;
+  opens = λ n unfinished. sym (posting-unfinished old mid p n) ∙ is.opens n unfinished;
   tries = λ v some. on v (same_name v u) refl (subst IsSome (named-with_named v u after old.attempts) (is.tries v some));
 }
   where
@@ -385,7 +434,12 @@ moved-spread old u after found new tried is = record {
 task-spread : (old : Shared) (u : Name) (x : Unit) → is_unfinished old.board u ≡ true → (task : Name) (tree : Attempt) → named u old.attempts ≡ Some tree → (ended : Option TaskEnd) (machine : Option Evaluation) (found : Given) (new : Shared)
     → TaskGives old u x task tree ended machine found new → IsTaskSpread old u found new
 task-spread old u x was task tree there None (Some machine) found new r =
-    moved-spread old u r.after found new (subst IsSome (sym there) refl) (after-spread (record old { attempts = with_named old.attempts u r.after }) u x was r.after found new task r.went (end_at r.after) r.comes)
+    moved-spread old r.mid p u r.by.after found new (subst IsSome (sym there) refl)
+    (subst (λ (all : Named Attempt). IsTaskSpread (record r.mid { attempts = with_named all u r.by.after }) u found new) (ap (λ (s : Shared). s.attempts) (posting-rest old r.mid p))
+    (after-spread (record r.mid { attempts = with_named r.mid.attempts u r.by.after }) u x (posting-unfinished old r.mid p u ∙ was) r.by.after found new task r.by.went (end_at r.by.after) r.comes))
+  where
+    p : IsPosting old r.mid
+    p = step-posting (end_at r.by.after) (named u old.aheads) old u tree.root (sends_in (done_by_root tree)) (sends_in r.by.more) r.mid r.posts
 task-spread old u x was task tree there None None found new r = absurd r
 task-spread old u x was task tree there (Some ended) machine found new r = root-spread old u x was tree found new task ended r
 

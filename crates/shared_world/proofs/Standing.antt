@@ -18,10 +18,8 @@ use Rattle.serial_model.specs.State.{Setup, UnitState}
 use Rattle.serial_model.specs.Step.{next_of}
 use Rattle.shared_world.proofs.ActorPieces.{SameActors, same-pieces-actors}
 use Rattle.shared_world.proofs.Leading.{ahead-still, seen-again, seen-same}
-use Rattle.shared_world.proofs.OfTurns.{sent-same}
 use Rattle.shared_world.specs.Ahead.{Ahead}
 use Rattle.shared_world.specs.Seen.{AttemptSeen, live_at, one_or_none}
-use Rattle.shared_world.specs.Sent.{AreSent}
 use Rattle.shared_world.specs.Shared.{Shared, finished_at, is_going, ref_now, state_at}
 use Rattle.shared_world.specs.Stands.{IsAheadAt, IsMachine, IsUnderWay, Stands, start_of}
 use Rattle.shared_world.proofs.States.{EachMachine, SameStates, machines-same, same-pieces}
@@ -139,7 +137,6 @@ stands-on old st b mails owners same actors machines mail = record {
   attempts = λ going v tree there. under-way old (record old { board = b; mails = mails; owners = owners }) v tree refl (same v) (λ r. refl) (λ f v is. ap (option_and_then (λ (unit : UnitState). unit.finished)) (same f) ∙ is) (le_refl (length old.history)) (st.attempts going v tree there);
   numbers = st.numbers;
   aheads = λ u h is. ahead-still old.board b u h (same u) (st.aheads u h is);
-  sent = sent-same old.taken old.mails mails mail st.sent;
 }
 
 -- pieces that the meaning sees as those that were there
@@ -177,7 +174,6 @@ ended old st entry e b same is_world = record {
   attempts = λ going v tree there. cc;
   numbers = λ r k d in_range. let long = length-append old.history (entry ∷ []) in let below = st.numbers r k d in_range in omega (arith, long, below);
   aheads = λ u h is. ahead-still old.board b u h (same-pieces old.board b same u) (st.aheads u h is);
-  sent = st.sent;
 }
 
 -- What is so of what is kept after an answer that leaves the attempts as they are, beside the world that is seen in it.
@@ -203,7 +199,6 @@ pub record IsNext (old : Shared) (st : Stands old) (new : Shared) (w2 : World) :
   pub reads : (v : Name) (tree : Attempt) → named v old.attempts ≡ Some tree → (r : Name) → snapshot_of new.versions tree.snapshot r ≡ snapshot_of old.versions tree.snapshot r
   pub numbers : IsAbove (suc (length new.history)) new.versions
   pub aheads : (u : Name) (h : Ahead) → named u new.aheads ≡ Some h → IsAheadAt new.board u h
-  pub sent : AreSent new.taken new.mails
 
 pub stands-next : (old : Shared) (st : Stands old) (new : Shared) (w2 : World) → IsNext old st new w2 → Stands new
 stands-next old st new w2 is = record {
@@ -229,7 +224,6 @@ stands-next old st new w2 is = record {
       under-way old new v tree is.setup (is.stay v tree before) (is.reads v tree before) is.grows is.longer (st.attempts (went going) v tree before);
   numbers = is.numbers;
   aheads = is.aheads;
-  sent = is.sent;
 }
   where
     went : is_going new.end ≡ true → is_going old.end ≡ true

@@ -218,7 +218,6 @@ module _ (old : Shared) (st : Stands old) (on_going : is_going old.end ≡ true)
     attempts = λ go v other is_there. on v other (same_name v u) refl (sym (named-with_named v u after old.attempts) ∙ is_there);
     numbers = st.numbers;
     aheads = st.aheads;
-    sent = st.sent;
   }
     where
       on : (v : Name) (other : Attempt) (c : Bool) → same_name v u ≡ c → cond c (Some after) (named v old.attempts) ≡ Some other → IsUnderWay after_step v other

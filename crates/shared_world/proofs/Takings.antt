@@ -22,7 +22,7 @@ none-is : (o : Option Message) → one_or_none o ≡ [] → o ≡ None
 none-is None e = refl
 none-is (Some m) e = cc
 
-one-is : (o : Option Message) (m : Message) → one_or_none o ≡ m ∷ [] → o ≡ Some m
+pub one-is : (o : Option Message) (m : Message) → one_or_none o ≡ m ∷ [] → o ≡ Some m
 one-is None m e = cc
 one-is (Some k) m e = let same : k ≡ m = cc in ap (λ j. Some j) same
 

@@ -13,8 +13,6 @@ use Rattle.shared_world.proofs.Leading.{live_on, none-leads, seen-here, seen-sam
 use Rattle.shared_world.proofs.Live.{no-piece}
 use Rattle.shared_world.proofs.Standing.{ended, under-way}
 use Rattle.shared_world.proofs.States.{SameStates, machines-put, states-put, unit-put}
-use Rattle.shared_world.proofs.OfTurns.{sent-mailed}
-use Rattle.shared_world.specs.Sent.{AreOfTurns}
 use Rattle.shared_world.specs.declared.given.Given.{Given}
 use Rattle.shared_world.specs.rows.Turns.{GaveActor, TakesIfAllowed}
 use Rattle.shared_world.specs.Seen.{one_or_none}
@@ -95,7 +93,6 @@ module _ (old : Shared) (st : Stands old) (on_going : old.end ≡ None) (a : Nam
         under-way old after v tree refl (apart v (st.attempts go v tree there).unit (st.attempts go v tree there).there) (λ q. refl) grows longer (st.attempts go v tree there);
     numbers = λ q k d in_range. let long = length-append old.history (entry ∷ []) in let below = st.numbers q k d in_range in omega (arith, long, below);
     aheads = λ v h leads. ahead-still old.board new.board v h (apart v (st.aheads v h leads).unit (st.aheads v h leads).there) (st.aheads v h leads);
-    sent = sent-mailed old.taken a g.rest old.mails new.mails r.mailed (subst AreOfTurns g.mail (st.sent.mail_so a)).1 st.sent;
   })
     where
       busy : Actor

@@ -17,8 +17,6 @@ use Rattle.serial_model.specs.declared.request.Request.TheVariants as request
 use Rattle.serial_model.specs.declared.actor_state.ActorState.{ActorState}
 use Rattle.serial_model.specs.State.{UnitState, new_unit}
 use Rattle.serial_model.specs.Step.{after_turn, answered, becoming, idle, next_made, next_of, with_made}
-use Rattle.shared_world.proofs.OfTurns.{last-of, sent-mailed, settled-of}
-use Rattle.shared_world.specs.Sent.{AreSent}
 use Rattle.shared_world.specs.declared.given.Given.{Given}
 use Rattle.shared_world.specs.rows.Pieces.{Ends, IsMarkedUnit, IsSet, IsUnitAt, Settles, mark_after}
 use Rattle.shared_world.specs.rows.Actors.{FinishesTurn, Sends, Spawns, actor_mark, actor_with, roused_unless}
@@ -134,7 +132,6 @@ module _ (old : Shared) (st : Stands old) (u : Name) (x : Unit) (here : IsHere o
     pub grows : Grows (finished_at old.board) (finished_at b)
     pub reads : (v : Name) (tree : Attempt) → named v old.attempts ≡ Some tree → (r : Name) → snapshot_of versions tree.snapshot r ≡ snapshot_of old.versions tree.snapshot r
     pub numbers : IsAbove (suc (suc (length old.history))) versions
-    pub sent : AreSent old.taken mails
 
   longer : length old.history ≤ length (old.history ++ Run u ∷ [])
   longer = let long = length-append old.history (Run u ∷ []) in omega (arith, long)
@@ -164,7 +161,6 @@ module _ (old : Shared) (st : Stands old) (u : Name) (x : Unit) (here : IsHere o
         reads = is.reads;
         numbers = λ r k d in_range. let long = length-append old.history (Run u ∷ []) in let below = is.numbers r k d in_range in omega (arith, long, below);
         aheads = λ v h leads. ahead-still old.board b v h (is.leading v h leads) (st.aheads v h leads);
-        sent = is.sent;
       })
 
   -- pieces that are those that were there, but for actors
@@ -181,9 +177,9 @@ module _ (old : Shared) (st : Stands old) (u : Name) (x : Unit) (here : IsHere o
       → ((q : Name) → w2.units q ≡ with_at w.units u (Some (still after)) q) → ((a : Name) → w2.actors a ≡ actor_at b0 a) → ((a : Name) → w2.taken a ≡ w.taken a) → ((a : Name) → w2.mails a ≡ mail_at mails a)
       → ((v : Name) → w2.attempts v ≡ w.attempts v) → w2.bytes ≡ bytes → w2.made ≡ old.made → w2.end ≡ w.end → ((tree : Attempt) → named u old.attempts ≡ Some tree → ⊥)
       → ((v : Name) (tree : Attempt) → named v old.attempts ≡ Some tree → (r : Name) → snapshot_of versions tree.snapshot r ≡ snapshot_of old.versions tree.snapshot r)
-      → IsAbove (suc (suc (length old.history))) versions → AreSent old.taken mails
+      → IsAbove (suc (suc (length old.history))) versions
       → Stands (record old { history = old.history ++ Run u ∷ []; versions = versions; board = b; mails = mails; bytes = bytes })
-  settled y after b0 b base at set mails versions bytes w2 is_world history refs units actors taken mails_are attempts bytes_are made_is end none reads numbers sent =
+  settled y after b0 b base at set mails versions bytes w2 is_world history refs units actors taken mails_are attempts bytes_are made_is end none reads numbers =
       stands-stepped versions b mails bytes old.made w2 (record {
         machines = machines-set (IsMachine old.setup) u y (mark_after after.finished) b0 b at.machine set base.machines;
         is_world = is_world;
@@ -202,7 +198,6 @@ module _ (old : Shared) (st : Stands old) (u : Name) (x : Unit) (here : IsHere o
         grows = finished-grow after b states;
         reads = reads;
         numbers = numbers;
-        sent = sent;
       })
     where
       states : (q : Name) → state_at b q ≡ cond (same_name q u) (Some after) (state_at old.board q)
@@ -215,14 +210,14 @@ module _ (old : Shared) (st : Stands old) (u : Name) (x : Unit) (here : IsHere o
       → IsWorld old.setup (moved_on (record w { bytes = w.bytes ++ text }) u after) → ((body : NodeId) (values : List Value) (at : Spot) → next_of old.setup unit ≡ halt.Ask (request.Dosync body values) at → ⊥) → Stands new
   plain after text found new r is_world other = subst Stands (sym r.others)
       (settled r.unit after old.board new.board same-base r.stands r.set old.mails old.versions (old.bytes ++ text) (moved_on (record w { bytes = w.bytes ++ text }) u after) is_world (ap (λ h. h ++ Run u ∷ []) st.seen.history) st.seen.refs
-      (λ q. refl) st.seen.actors (λ a. refl) st.seen.mails (λ v. refl) (ap (λ b. b ++ text) st.seen.bytes) st.seen.made refl (no-attempt other) (λ v tree there r. refl) (above-next (suc (length old.history)) old.versions st.numbers) st.sent)
+      (λ q. refl) st.seen.actors (λ a. refl) st.seen.mails (λ v. refl) (ap (λ b. b ++ text) st.seen.bytes) st.seen.made refl (no-attempt other) (λ v tree there r. refl) (above-next (suc (length old.history)) old.versions st.numbers))
 
   -- it goes on so, with nothing but its entry
   quiet : (after : UnitState) (found : Given) (new : Shared) → Settles old u x after found new → IsWorld old.setup (moved_on w u after)
       → ((body : NodeId) (values : List Value) (at : Spot) → next_of old.setup unit ≡ halt.Ask (request.Dosync body values) at → ⊥) → Stands new
   quiet after found new r is_world other = subst Stands (sym r.others)
       (settled r.unit after old.board new.board same-base r.stands r.set old.mails old.versions old.bytes (moved_on w u after) is_world (ap (λ h. h ++ Run u ∷ []) st.seen.history) st.seen.refs
-      (λ q. refl) st.seen.actors (λ a. refl) st.seen.mails (λ v. refl) st.seen.bytes st.seen.made refl (no-attempt other) (λ v tree there r. refl) (above-next (suc (length old.history)) old.versions st.numbers) st.sent)
+      (λ q. refl) st.seen.actors (λ a. refl) st.seen.mails (λ v. refl) st.seen.bytes st.seen.made refl (no-attempt other) (λ v tree there r. refl) (above-next (suc (length old.history)) old.versions st.numbers))
 
   -- a row of the law
   goes : (after : World) → Gave old.setup w (Some (Run u)) after → IsWorld old.setup after
@@ -264,7 +259,7 @@ module _ (old : Shared) (st : Stands old) (u : Name) (x : Unit) (here : IsHere o
       (settled r.unit after old.board new.board same-base r.stands r.set old.mails versions old.bytes after_world is_world (ap (λ h. h ++ Run u ∷ []) st.seen.history) (one-version old st n v)
       (λ q. refl) st.seen.actors (λ a. refl) st.seen.mails (λ v. refl) st.seen.bytes st.seen.made refl (no-attempt (λ body values spot e. let no = sym asks ∙ e in cc))
       (λ q tree there ref. let way = st.attempts is_going_so q tree there in let within = way.within in read_below old.versions ((n, v) ∷ []) (suc (length old.history)) tree.snapshot tt (omega (arith, within)) ref)
-      (above_committed old.versions versions ((n, v) ∷ []) (suc (length old.history)) tt refl st.numbers (suc (suc (length old.history))) (omega arith)) st.sent)
+      (above_committed old.versions versions ((n, v) ∷ []) (suc (length old.history)) tt refl st.numbers (suc (suc (length old.history))) (omega arith)))
     where
       n : Name
       n = next_made u unit
@@ -308,7 +303,6 @@ module _ (old : Shared) (st : Stands old) (u : Name) (x : Unit) (here : IsHere o
         grows = λ f v is. grown f v is (same_name f u) (same_name f child) refl refl (states f);
         reads = λ v tree there r. refl;
         numbers = above-next (suc (length old.history)) old.versions st.numbers;
-        sent = st.sent;
       }))
     where
       child : Name
@@ -369,8 +363,7 @@ module _ (old : Shared) (st : Stands old) (u : Name) (x : Unit) (here : IsHere o
       (settled r.settles.unit after r.board new.board base r.settles.stands r.settles.set r.mails old.versions old.bytes after_world
       (goes after_world (row.sends u (still unit) to args at still-here asks)) (ap (λ h. h ++ Run u ∷ []) st.seen.history) st.seen.refs
       (λ q. refl) (λ a. st.seen.actors a ∙ sym (actors a)) (λ a. refl) (λ a. mails a (same_name a to) refl) (λ v. refl) st.seen.bytes st.seen.made refl
-      (no-attempt (λ body values spot e. let no = sym asks ∙ e in cc)) (λ v tree there r. refl) (above-next (suc (length old.history)) old.versions st.numbers)
-      (sent-mailed old.taken to (mail_at old.mails to ++ message ∷ []) old.mails r.mails r.mailed (last-of (mail_at old.mails to) message (st.sent.mail_so to) (settled-of u args)) st.sent))
+      (no-attempt (λ body values spot e. let no = sym asks ∙ e in cc)) (λ v tree there r. refl) (above-next (suc (length old.history)) old.versions st.numbers))
     where
       after : UnitState
       after = answered unit value.Nil
@@ -399,7 +392,7 @@ module _ (old : Shared) (st : Stands old) (u : Name) (x : Unit) (here : IsHere o
       (settled r.settles.unit after r.board new.board base r.settles.stands r.settles.set old.mails old.versions old.bytes after_world
       (goes after_world (row.spawns u (still unit) behaviour state at still-here asks)) (ap (λ h. h ++ Run u ∷ []) st.seen.history) st.seen.refs
       (λ q. refl) (λ a. actors a (same_name a n) (actor-put n (record { state = idle behaviour state; mark = actor_mark false (mail_at old.mails n) }) old.board r.board r.put a)) (λ a. refl) st.seen.mails (λ v. refl) st.seen.bytes st.seen.made refl
-      (no-attempt (λ body values spot e. let no = sym asks ∙ e in cc)) (λ v tree there r. refl) (above-next (suc (length old.history)) old.versions st.numbers) st.sent)
+      (no-attempt (λ body values spot e. let no = sym asks ∙ e in cc)) (λ v tree there r. refl) (above-next (suc (length old.history)) old.versions st.numbers))
     where
       n : Name
       n = next_made u unit
@@ -438,7 +431,7 @@ module _ (old : Shared) (st : Stands old) (u : Name) (x : Unit) (here : IsHere o
       (settled r.settles.unit after r.board new.board base r.settles.stands r.settles.set old.mails old.versions old.bytes after_world
       (goes after_world (row.finishes_turn u a (still unit) r.actor.state v still-here asks is (st.seen.actors a ∙ ap actor_of_piece r.there))) (ap (λ h. h ++ Run u ∷ []) st.seen.history) st.seen.refs
       (λ q. refl) (λ q. actors q (same_name q a) (actor-put a (record { state = free; mark = actor_mark free.busy (mail_at old.mails a) }) old.board r.board r.freed q)) (λ q. refl) st.seen.mails (λ q. refl) st.seen.bytes st.seen.made refl
-      (no-attempt (λ body values spot e. let no = sym asks ∙ e in cc)) (λ q tree there k. refl) (above-next (suc (length old.history)) old.versions st.numbers) st.sent)
+      (no-attempt (λ body values spot e. let no = sym asks ∙ e in cc)) (λ q tree there k. refl) (above-next (suc (length old.history)) old.versions st.numbers))
     where
       free : ActorState
       free = after_turn unit.becomes r.actor.state

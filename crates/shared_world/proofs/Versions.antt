@@ -1,5 +1,5 @@
--- The newest version of a ref, against a number.
-use Rattle.std.proofs.Common.{◌≡◌, ◌∙◌, ℕ, ◌<◌, ◌≤◌, ◌⊎◌, inl, inr, Bool, true, false, List, [], ◌∷◌, refl, sym, ap, subst, arith}
+-- The versions of a ref: the newest against a number, and what is read once they are pruned.
+use Rattle.std.proofs.Common.{◌≡◌, ◌∙◌, ℕ, ◌<◌, ◌≤◌, ◌⊎◌, inl, inr, Bool, true, false, List, [], ◌∷◌, refl, sym, ap, subst}
 use Rattle.std.proofs.lemmas.Bool.{cases_lt, le-leb}
 use Rattle.std.proofs.lemmas.List.Elements.{All-head, All-tail}
 use Rattle.std.specs.Option.{option_map, option_or}
@@ -7,7 +7,11 @@ use Rattle.std.specs.Prelude.{Option, None, Some, All, cond}
 use Rattle.ref_store.proofs.VersionLaws.{version_at-cons, with_first}
 use Rattle.ref_store.specs.declared.version.Version.{Version}
 use Rattle.ref_store.specs.Version.{is_by, newest, value_at, version_at}
-use Rattle.value_core.specs.declared.value.Value.{Value}
+use Rattle.shared_world.specs.rows.Attempts.{ArePrunedFor}
+use Rattle.shared_world.specs.Shared.{ref_now}
+use Rattle.task_fork_join.specs.Attempt.{Attempt}
+use Rattle.txn_snapshot.specs.SnapshotAnswer.{snapshot_of}
+use Rattle.value_core.specs.Named.{Name, Named, named}
 
 -- what holds of all holds of the newest
 pub all-newest : (P : Version → Type 0) (versions : List Version) (v : Version) → All P versions → newest versions ≡ Some v → P v
@@ -54,3 +58,12 @@ newest-above number versions v none is = on (cases_lt number v.number)
     on (inr below) =
         let some : Some v.value ≡ None = sym (ap (λ (o : Option Version). option_map (λ (x : Version). x.value) o) (newest-by number versions v is below)) ∙ none in
         absurd (cc)
+
+-- where the versions are pruned for the attempts, these read what they did
+pub reads-kept : (attempts : Named Attempt) (before versions : Named (List Version)) → ArePrunedFor attempts before versions → (v : Name) (tree : Attempt) → named v attempts ≡ Some tree
+    → (r : Name) → snapshot_of versions tree.snapshot r ≡ snapshot_of before tree.snapshot r
+reads-kept attempts before versions pruned v tree there r = ap (option_map (λ (k : Version). k.value)) ((pruned.pruned r).live_reads tree.snapshot (pruned.are_live.each v tree there))
+
+-- and so does what reads the refs as they are now
+pub now-kept : (attempts : Named Attempt) (before versions : Named (List Version)) → ArePrunedFor attempts before versions → (r : Name) → ref_now versions r ≡ ref_now before r
+now-kept attempts before versions pruned r = ap (option_map (λ (k : Version). k.value)) (pruned.pruned r).newest_stays

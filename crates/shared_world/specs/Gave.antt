@@ -5,7 +5,7 @@ use Rattle.shared_world.specs.declared.given.Given.{Given}
 use Rattle.shared_world.specs.declared.given.Given.TheVariants as given
 use Rattle.shared_world.specs.Returned.{IsLive, Returned}
 use Rattle.shared_world.specs.rows.Leading.{GaveLead, GaveTentative}
-use Rattle.shared_world.specs.rows.Pieces.{ClaimsEnd}
+use Rattle.shared_world.specs.rows.Pieces.{ClaimsEnd, is_idle}
 use Rattle.shared_world.specs.rows.Tasks.{TaskGives}
 use Rattle.shared_world.specs.rows.Turns.{GaveActor}
 use Rattle.shared_world.specs.rows.Units.{UnitGives}
@@ -37,9 +37,20 @@ pub record GaveUnit (old : Shared) (name : Name) (found : Given) (new : Shared) 
 abbrev pub is_gone : Board → Board → Name → Bool
 is_gone old new q = is_some (piece_at old q) && not (is_some (piece_at new q))
 
--- whose claims end: the task's, and those of the pieces that are gone
-abbrev pub gone_with : Board → Board → Name → Name → Bool
-gone_with old new task q = same_name q task || is_gone old new q
+-- Which claims end: those on what is gone; and where an attempt is undone those on what nothing can be done with any more, which is an
+-- actor that is left without mail too.
+abbrev pub ended_by : Given → Board → Board → Name → Bool
+ended_by (given.Aborted unit ref version) old new q = is_idle new q
+ended_by (given.Settled entry) old new q = is_gone old new q
+ended_by given.Held old new q = is_gone old new q
+ended_by given.Local old new q = is_gone old new q
+ended_by (given.Began snapshot) old new q = is_gone old new q
+ended_by (given.Waiting on) old new q = is_gone old new q
+ended_by given.Stale old new q = is_gone old new q
+
+-- and that of the task
+abbrev pub gone_with : Given → Board → Board → Name → Name → Bool
+gone_with found old new task q = same_name q task || ended_by found old new q
 
 -- a task of the attempt of a unit
 pub record GaveTask (old : Shared) (name : Name) (found : Given) (new : Shared) : Type 0 where
@@ -52,7 +63,7 @@ pub record GaveTask (old : Shared) (name : Name) (found : Given) (new : Shared) 
   pub unit_there : unit_at old.board owner ≡ Some unit
   pub attempt : named owner old.attempts ≡ Some tree
   pub gives : TaskGives old owner unit name tree (end_at tree) (machine_of tree name) found new
-  pub claims : ClaimsEnd (gone_with old.board new.board name) old new
+  pub claims : ClaimsEnd (gone_with found old.board new.board name) old new
 
 -- What the world answers and is afterwards, for a result.
 pub data Gave (old : Shared) (result : Returned) (found : Given) (new : Shared) : Type 0 where

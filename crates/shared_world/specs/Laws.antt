@@ -11,15 +11,18 @@ use Rattle.shared_world.specs.declared.given.Given.TheVariants as given
 use Rattle.shared_world.specs.Gave.{Gave}
 use Rattle.shared_world.specs.Later.{Appends, settled_by}
 use Rattle.shared_world.specs.HeldUp.{IsHeldUp}
-use Rattle.shared_world.specs.Marks.{HasMarks}
+use Rattle.shared_world.specs.Marks.{AreMarked, AreMarkedBeside, HasMarks}
 use Rattle.shared_world.specs.Opening.{IsOpening}
 use Rattle.shared_world.specs.Rest.{IsAtRest}
 use Rattle.shared_world.specs.Returned.{Returned}
+use Rattle.shared_world.specs.rows.Undoing.{Undoes}
 use Rattle.shared_world.specs.Shared.{Shared, is_going, ready}
 use Rattle.shared_world.specs.Stands.{Stands}
-use Rattle.unit_table.specs.Board.{piece_at}
+use Rattle.task_fork_join.specs.Attempt.{Attempt}
+use Rattle.unit_table.specs.Board.{piece_at, unit_at}
 use Rattle.unit_table.specs.declared.piece.Piece.{Piece}
-use Rattle.value_core.specs.Named.{Name}
+use Rattle.unit_table.specs.declared.unit.Unit.{Unit}
+use Rattle.value_core.specs.Named.{Name, named}
 
 -- whatever a result comes to, what is kept stands for the replay of its history afterwards
 abbrev pub GaveKeeps : Type 0
@@ -63,3 +66,23 @@ AttemptsAge = (old new : Shared) (result : Returned) (found : Given) → Stands 
 -- in a run from main alone the attempts of a unit are undone at most as often as entries are settled
 abbrev pub AbortsAreFew : Type 0
 AbortsAreFew = (setup : Setup) (first last : Shared) (answers : List Given) → IsWellFormed setup.program → IsOpening setup first → Runs first answers last → (u : Name) → undone_among u answers ≤ length last.history
+
+-- ---- an attempt that is undone with all that hangs on it
+-- an attempt of a unit, while the run goes on, of what stands
+pub record IsTried (s : Shared) (u : Name) (x : Unit) (tree : Attempt) : Type 0 where
+  pub stands : Stands s
+  pub going : is_going s.end ≡ true
+  pub there : unit_at s.board u ≡ Some x
+  pub attempt : named u s.attempts ≡ Some tree
+
+-- what is kept stands for the replay of its history afterwards
+abbrev pub UndoesKeeps : Type 0
+UndoesKeeps = (old new : Shared) (u : Name) (x : Unit) (tree : Attempt) → IsTried old u x tree → Undoes old u x tree new → Stands new
+
+-- the marks are right afterwards, whatever those of the tasks of the attempt said before
+abbrev pub UndoesMarks : Type 0
+UndoesMarks = (old new : Shared) (u : Name) (x : Unit) (tree : Attempt) → IsTried old u x tree → AreMarkedBeside old u → Undoes old u x tree new → AreMarked new
+
+-- each attempt that goes is followed by one on no fewer entries
+abbrev pub UndoesAges : Type 0
+UndoesAges = (old new : Shared) (u : Name) (x : Unit) (tree : Attempt) → IsTried old u x tree → Undoes old u x tree new → (v : Name) → age_of old v ≤ age_of new v

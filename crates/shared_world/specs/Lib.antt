@@ -1,5 +1,6 @@
 pub mod Ahead
 pub mod Counts
+pub mod Dependence
 pub mod Gave
 pub mod HeldUp
 pub mod Later
@@ -10,6 +11,5 @@ pub mod Rest
 pub mod Returned
 pub mod Seen
 pub mod Shared
-pub mod Sent
 pub mod Stands
 pub mod rows

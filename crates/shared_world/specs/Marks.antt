@@ -105,6 +105,27 @@ pub record AreMarked (s : Shared) : Type 0 where
   pub actors : (a : Name) (x : Actor) → piece_at s.board a ≡ Some (piece.Actor x) → x.mark ≡ actor_mark (has_turn s.taken a x.state) (mail_at s.mails a)
   pub pieces : (u : Name) (tree : Attempt) → named u s.attempts ≡ Some tree → (n : Name) (t : Task) → named n tree.tasks ≡ Some t → HasPiece s u n
 
+-- the task is of the attempt of that unit
+pub record IsTaskOf (s : Shared) (u n : Name) : Type 0 where
+  pub of : named n s.owners ≡ Some u
+  pub tree : Attempt
+  pub attempt : named u s.attempts ≡ Some tree
+  pub task : Task
+  pub among : named n tree.tasks ≡ Some task
+
+-- a task of the attempt of that unit is no piece yet
+pub record IsYetToStand (s : Shared) (u v n : Name) : Type 0 where
+  pub own : v ≡ u
+  pub none : piece_at s.board n ≡ None
+
+-- So it is but for the tasks of the attempt of that unit, which has taken a step since: nothing is said of their marks, and some of them
+-- may be no pieces yet.
+pub record AreMarkedBeside (s : Shared) (u : Name) : Type 0 where
+  pub units : (v : Name) (x : Doing) → unit_at s.board v ≡ Some x → UnitSays s v x x.mark
+  pub tasks : (n : Name) (m : Mark) → piece_at s.board n ≡ Some (piece.Task m) → (IsTaskOf s u n) ⊎ (IsTaskPiece s n m)
+  pub actors : (a : Name) (x : Actor) → piece_at s.board a ≡ Some (piece.Actor x) → x.mark ≡ actor_mark (has_turn s.taken a x.state) (mail_at s.mails a)
+  pub pieces : (v : Name) (tree : Attempt) → named v s.attempts ≡ Some tree → (n : Name) (t : Task) → named n tree.tasks ≡ Some t → (HasPiece s v n) ⊎ (IsYetToStand s u v n)
+
 -- once the run has ended nothing is said of them
 abbrev pub HasMarks : Shared → Type 0
 HasMarks s = is_going s.end ≡ true → AreMarked s

@@ -9,7 +9,6 @@ use Rattle.serial_model.specs.State.{Setup, UnitState}
 use Rattle.serial_model.specs.Step.{next_made, next_of}
 use Rattle.shared_world.specs.Ahead.{Ahead}
 use Rattle.shared_world.specs.Seen.{IsSeen, live_with}
-use Rattle.shared_world.specs.Sent.{AreSent}
 use Rattle.shared_world.specs.Shared.{Shared, finished_at, is_going, state_at}
 use Rattle.task_fork_join.specs.Attempt.{Attempt}
 use Rattle.task_fork_join.specs.Running.{IsRun}
@@ -61,8 +60,7 @@ pub record IsAheadAt (board : Board) (u : Name) (h : Ahead) : Type 0 where
   pub holds : is_ahead (live_with (Some h) unit) ≡ true
 
 -- What is kept is a world that stands for the replay of its history; each machine evaluates what its unit is; each attempt runs
--- the transaction of its unit; no version is newer than the history; what runs ahead is a unit that is not finished; and what is not
--- settled depends on the turn that sent it.
+-- the transaction of its unit; no version is newer than the history; and what runs ahead is a unit that is not finished.
 pub record Stands (s : Shared) : Type 0 where
   pub formed : IsWellFormed s.setup.program
   pub world : World
@@ -72,4 +70,3 @@ pub record Stands (s : Shared) : Type 0 where
   pub attempts : is_going s.end ≡ true → (u : Name) (tree : Attempt) → named u s.attempts ≡ Some tree → IsUnderWay s u tree
   pub numbers : IsAbove (suc (length s.history)) s.versions
   pub aheads : (u : Name) (h : Ahead) → named u s.aheads ≡ Some h → IsAheadAt s.board u h
-  pub sent : AreSent s.taken s.mails

@@ -1,8 +1,12 @@
 pub mod Actors
 pub mod Attempts
+pub mod Commits
 pub mod Leading
 pub mod Pieces
+pub mod Resetting
 pub mod Sending
 pub mod Tasks
 pub mod Turns
+pub mod Undoing
 pub mod Units
+pub mod Unsettled

@@ -1,6 +1,6 @@
 //! Laws of the world as it is kept.
-ghost use Rattle.shared_world.specs.Laws.{AbortsAreFew, AbortsAreLate, AttemptsAge, GaveAppends, GaveKeeps, GaveMarks, OpeningMarks, OpeningStands, OthersAreReady, OverAtRest};
-ghost use Rattle.shared_world.specs.rows.Sending.{StepsSendingBear};
+ghost use Rattle.shared_world.specs.Laws.{AbortsAreFew, AbortsAreLate, AttemptsAge, GaveAppends, GaveKeeps, GaveMarks, OpeningMarks, OpeningStands, OthersAreReady, OverAtRest, UndoesAges, UndoesKeeps, UndoesMarks};
+ghost use Rattle.shared_world.specs.rows.Resetting.{ResetsMark, ResetsStand};
 
 /// Whatever a result that is given back comes to, what is kept stands for the replay of its history afterwards.
 pub fn gave_keeps()
@@ -53,7 +53,27 @@ pub fn aborts_are_few()
     ensures { AbortsAreFew }
 {}
 
-/// Where a root's sends are put at once, what stands whatever is put still does.
-pub fn steps_sending_bear()
-    ensures { StepsSendingBear }
+/// Where an attempt is undone with all that hangs on it, what is kept stands for the replay of its history afterwards.
+pub fn undoes_keeps()
+    ensures { UndoesKeeps }
+{}
+
+/// Where an attempt is undone with all that hangs on it, the marks of the pieces are right afterwards.
+pub fn undoes_marks()
+    ensures { UndoesMarks }
+{}
+
+/// Where an attempt is undone with all that hangs on it, each one that goes is followed by one on no fewer entries.
+pub fn undoes_ages()
+    ensures { UndoesAges }
+{}
+
+/// Where everything is back where the history left it, what is kept stands for the replay of its history.
+pub fn resets_stand()
+    ensures { ResetsStand }
+{}
+
+/// And the marks of the pieces are right where they were before.
+pub fn resets_mark()
+    ensures { ResetsMark }
 {}

@@ -11,6 +11,7 @@ pub mod Kinship
 pub mod Members
 pub mod Missing
 pub mod Nexts
+pub mod Quiet
 pub mod Replying
 pub mod Staying
 pub mod StepShapes

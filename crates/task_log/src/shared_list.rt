@@ -1,4 +1,4 @@
-ghost use Rattle.std.specs.Prelude.{◌≡◌, ◌∷◌, ◌++◌, [], reverse, IfOk, OnErr, OnOk};
+ghost use Rattle.std.specs.Prelude.{◌≡◌, ◌∷◌, ◌++◌, [], length, reverse, IfOk, OnErr, OnOk};
 ghost use Rattle.std.specs.Option.{option_copied};
 ghost use Rattle.shared_chain.specs.Links.{from_link};
 
@@ -13,10 +13,11 @@ use value_core::Name;
 pub struct SharedList<T> {
     // The last item first.
     last: Chain<T>,
+    len: usize,
 }
 
 impl<T> Model for SharedList<T> {
-    ghost use Rattle.std.specs.Prelude.{List, reverse};
+    ghost use Rattle.std.specs.Prelude.{◌≡◌, List, length, reverse};
     ghost use Rattle.std.specs.Coded.{coded_list};
 
     ghost Value = { List T };
@@ -24,6 +25,8 @@ impl<T> Model for SharedList<T> {
     ghost coded = { coded_list T.code };
 
     ghost view = { λ l. reverse l.last };
+
+    ghost invariant = { λ l. l.len ≡ length (reverse l.last) };
 }
 
 impl<T: Drop> SharedList<T> {
@@ -33,6 +36,7 @@ impl<T: Drop> SharedList<T> {
     {
         SharedList {
             last: Chain::new(alloc),
+            len: 0,
         }
     }
 
@@ -42,6 +46,7 @@ impl<T: Drop> SharedList<T> {
     {
         Ok(SharedList {
             last: self.last.copy()?,
+            len: self.len,
         })
     }
 
@@ -50,7 +55,17 @@ impl<T: Drop> SharedList<T> {
         ensures pushed { OnOk result (self.new ≡ self.old ++ item ∷ []) }
         ensures same { OnErr result (self.new ≡ self.old) }
     {
-        self.last.push(item).map_err(|_| AllocError)
+        let len = self.len.checked_add(1).ok_or(AllocError)?;
+        self.last.push(item).map_err(|_| AllocError)?;
+        self.len = len;
+        Ok(())
+    }
+
+    /// How many items there are. It takes no memory.
+    pub fn len(&self) -> usize
+        ensures { result ≡ length self.now }
+    {
+        self.len
     }
 
     /// The link of the last item, with those before it below it.
@@ -63,7 +78,10 @@ impl<T: Drop> SharedList<T> {
 
 impl<T: Drop> Drop for SharedList<T> {
     fn drop(self) {
-        let SharedList { last: _last } = self;
+        let SharedList {
+            last: _last,
+            len: _,
+        } = self;
     }
 }
 

@@ -1,5 +1,5 @@
 -- What a turn sends that runs ahead.
-use Rattle.std.specs.Prelude.{Bool, List, false, filter}
+use Rattle.std.specs.Prelude.{Bool, List, [], ◌∷◌, false, filter, flat_map}
 use Rattle.serial_model.specs.declared.request.Request.{Request}
 use Rattle.serial_model.specs.declared.request.Request.TheVariants as request
 use Rattle.tentative_turn.specs.declared.held_effect.HeldEffect.{HeldEffect}
@@ -19,3 +19,20 @@ is_sent_to to (held.Take entry) = false
 -- those of the effects that do
 abbrev pub sent_to : Name → List HeldEffect → List HeldEffect
 sent_to to effects = filter (is_sent_to to) effects
+
+-- the receiver of the request, where it sends something
+abbrev pub receiver : Request → List Name
+receiver (request.Send to args) = to ∷ []
+receiver _ = []
+
+-- the receivers of what the requests send, in order
+abbrev pub request_receivers : List Request → List Name
+request_receivers requests = flat_map receiver requests
+
+-- so it is of what is held
+abbrev pub held_receiver : HeldEffect → List Name
+held_receiver (held.Asked r answer) = receiver r
+held_receiver (held.Take entry) = []
+
+abbrev pub held_receivers : List HeldEffect → List Name
+held_receivers effects = flat_map held_receiver effects

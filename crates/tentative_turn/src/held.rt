@@ -1,7 +1,7 @@
 ghost use Rattle.std.specs.Prelude.{◌≡◌, ◌↔◌, ◌+◌, [], ◌∷◌, ◌++◌, IfOk, OnErr, OnOk, drop, length};
 ghost use Rattle.std.specs.List.{slice_get};
 ghost use Rattle.std.specs.Option.{option_copied};
-ghost use Rattle.tentative_turn.specs.Sending.{is_send_to, is_sent_to, sent_to};
+ghost use Rattle.tentative_turn.specs.Sending.{held_receiver, held_receivers, is_send_to, is_sent_to, sent_to};
 ghost use Rattle.tentative_turn.specs.Turn.{answered_ahead, is_turn, things_made, IsBegun, IsDosync, IsLookUp, IsMustWait, IsTake, IsTakeOf, RunsAhead};
 ghost use Rattle.tentative_turn.specs.declared.held_effect.HeldEffect.TheVariants as held;
 
@@ -110,6 +110,13 @@ impl Held {
     {
         count_sent(&self.effects, to)
     }
+
+    /// The receivers of what the requests that it holds send, in their order; or it finds no memory.
+    pub fn receivers(&self, alloc: Global) -> Result<Vec<Name>, AllocError>
+        ensures { IfOk result (λ names. names.items ≡ held_receivers self.now.effects) }
+    {
+        list_receivers(alloc, &self.effects)
+    }
 }
 
 /// How many of the effects are requests that send something to that actor.
@@ -130,6 +137,31 @@ fn is_sent_to(effect: &HeldEffect, to: &Name) -> bool
         HeldEffect::Asked(request, _) => is_send_to(request, to),
         HeldEffect::Take(_) => false,
     }
+}
+
+/// The receivers of what the requests among the effects send, in their order.
+fn list_receivers(alloc: Global, effects: &VecDeque<HeldEffect>) -> Result<Vec<Name>, AllocError>
+    ensures { IfOk result (λ names. names.items ≡ held_receivers effects.now.items) }
+{
+    let mut names = Vec::new(alloc);
+    for effect in effects {
+        push_receiver(alloc, effect, &mut names)?;
+    }
+    Ok(names)
+}
+
+/// Appends the receiver of what the effect sends, where it sends something.
+fn push_receiver(
+    alloc: Global,
+    effect: &HeldEffect,
+    names: &mut Vec<Name>,
+) -> Result<(), AllocError>
+    ensures { OnOk result (names.new.items ≡ names.old.items ++ held_receiver effect.now) }
+{
+    if let HeldEffect::Asked(Request::Send(to, _), _) = effect {
+        names.push(to.copy(alloc)?)?;
+    }
+    Ok(())
 }
 
 /// Whether the request sends something to that actor.

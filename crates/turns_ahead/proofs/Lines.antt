@@ -13,7 +13,7 @@ use Rattle.tentative_turn.specs.declared.held_effect.HeldEffect.{HeldEffect}
 use Rattle.tentative_turn.specs.declared.held_effect.HeldEffect.TheVariants as held
 use Rattle.tentative_turn.specs.declared.ahead.Ahead.{Ahead as Foretold}
 use Rattle.tentative_turn.specs.declared.ahead.Ahead.TheVariants as foretold
-use Rattle.tentative_turn.specs.Sending.{is_send_to, sent_to}
+use Rattle.tentative_turn.specs.Sending.{held_receivers, is_send_to, receiver, request_receivers, sent_to}
 use Rattle.tentative_turn.specs.Turn.{Turn, answered_ahead, things_made, with_asked, IsLookUp, IsMustWait, RunsAhead}
 use Rattle.turns_ahead.specs.Leading.{Leading, ahead_of, asked, becomes_or, begins, hands_back, AreAsked, HasGone, HasSettled, IsLeftBy, IsLeftNext, IsLine}
 use Rattle.turns_ahead.specs.declared.turn_ahead.Left.{Left}
@@ -146,3 +146,9 @@ sent-asked to (held.Asked r answer ∷ effects) = on r (sent-asked to effects)
     on (request.Send actor args) rest = sends (same_name to actor) args rest
     on (request.Become behaviour state) rest = rest
     on request.SelfActor rest = rest
+
+-- the receivers of what is held are those of the requests
+pub receivers-asked : (effects : List HeldEffect) → held_receivers effects ≡ request_receivers (asked effects)
+receivers-asked [] = refl
+receivers-asked (held.Take entry ∷ effects) = receivers-asked effects
+receivers-asked (held.Asked r answer ∷ effects) = ap (λ rest. receiver r ++ rest) (receivers-asked effects)

@@ -2,6 +2,7 @@ ghost use Rattle.std.specs.Prelude.{◌≡◌, IfOk, IfSome, None, OnErr, Option
 ghost use Rattle.std.specs.Option.{option_copied, IsSome};
 ghost use Rattle.serial_model.specs.Sends.{sends_to};
 ghost use Rattle.shared_world.specs.rows.Leading.{becomes_after, leads_on};
+ghost use Rattle.tentative_turn.specs.Sending.{request_receivers};
 ghost use Rattle.tentative_turn.specs.Turn.{is_turn, IsDosync, IsTake};
 ghost use Rattle.turns_ahead.specs.Leading.{ahead_of, becomes_or, begins, first_asked, hands_back, AreAsked, HasBegun, HasGone, HasSettled, IsLeftBy, IsLeftNext};
 ghost use Rattle.unit_table.specs.declared.unit.Becoming.{Becoming as Turning};
@@ -153,6 +154,13 @@ impl TurnAhead {
         self.held.count_sends(to)
     }
 
+    /// The receivers of what the requests that it holds send, in their order; or it finds no memory.
+    pub fn receivers(&self, alloc: Global) -> Result<Vec<Name>, AllocError>
+        ensures { IfOk result (λ names. names.items ≡ request_receivers (ahead_of self.now).held) }
+    {
+        self.held.receivers(alloc)
+    }
+
     /// The request that is held first. None where its begin is held, or nothing is.
     pub fn first_request(&self) -> Option<&Request>
         ensures { option_copied result ≡ first_asked self.now.turn.effects }
@@ -168,6 +176,26 @@ impl TurnAhead {
         ensures { result ≡ self.now.made }
     {
         self.made
+    }
+
+    /// How many of its answers the history knows.
+    pub fn left_answers(&self) -> u64
+        ensures { result ≡ self.now.answers }
+    {
+        self.answers
+    }
+
+    /// What its actor was to become where the history left it.
+    pub fn left_becomes(&self) -> Result<Option<Becoming>, AllocError>
+        ensures { IfOk result (λ becomes. becomes ≡ self.now.becomes) }
+    {
+        match &self.becomes {
+            Some(next) => Ok(Some(Becoming {
+                behaviour: next.behaviour,
+                state: next.state.copy()?,
+            })),
+            None => Ok(None),
+        }
     }
 
     /// Whether it runs ahead still, where all that it holds are requests.

@@ -172,7 +172,7 @@ module _ (b : Board) (records : Named Record) (waits : List (Option ℕ)) (name 
   moved_put = subst (λ o. IfSome o (λ unit. IsPutAt name (Some (piece.Unit (record unit { machine = machine; made = made }))) b (with_records b records))) (sym (ap (option_and_then unit_in) found.stands))
       (content_put b records waits name (moved machine made) (piece.Unit found.kept) kept found.stands refl changed)
 
-module _ (b : Board) (records : Named Record) (waits : List (Option ℕ)) (name : Name) (next : Becoming)
+module _ (b : Board) (records : Named Record) (waits : List (Option ℕ)) (name : Name) (next : Option Becoming)
     (kept : IsKept b waits) (there : IsSome (unit_at b name)) (changed : IsChanged name b.records records (λ r after. after ≡ record r { piece = option_map (becoming next) r.piece })) where
   turning : UnitStands b name
   turning = unit_found b name there
@@ -189,8 +189,8 @@ module _ (b : Board) (records : Named Record) (waits : List (Option ℕ)) (name 
   pub turned_slots : SameSlots b (with_records b records)
   turned_slots = content_slots b records waits name (becoming next) (piece.Unit turning.kept) kept turning.stands refl changed
 
-  pub turned_put : IfSome (unit_at b name) (λ unit. IsPutAt name (Some (piece.Unit (record unit { becomes = Some next }))) b (with_records b records))
-  turned_put = subst (λ o. IfSome o (λ unit. IsPutAt name (Some (piece.Unit (record unit { becomes = Some next }))) b (with_records b records))) (sym (ap (option_and_then unit_in) turning.stands))
+  pub turned_put : IfSome (unit_at b name) (λ unit. IsPutAt name (Some (piece.Unit (record unit { becomes = next }))) b (with_records b records))
+  turned_put = subst (λ o. IfSome o (λ unit. IsPutAt name (Some (piece.Unit (record unit { becomes = next }))) b (with_records b records))) (sym (ap (option_and_then unit_in) turning.stands))
       (content_put b records waits name (becoming next) (piece.Unit turning.kept) kept turning.stands refl changed)
 
 module _ (b : Board) (records : Named Record) (waits : List (Option ℕ)) (name : Name) (state : ActorState)

@@ -30,9 +30,9 @@ abbrev pub moved : Evaluation → ℕ → Piece → Piece
 moved machine made (piece.Unit unit) = piece.Unit (record unit { machine = machine; made = made })
 moved machine made p = p
 
--- a unit whose actor becomes that at its end; anything else as it was
-abbrev pub becoming : Becoming → Piece → Piece
-becoming next (piece.Unit unit) = piece.Unit (record unit { becomes = Some next })
+-- a unit whose actor becomes that at its end, where that is said; anything else as it was
+abbrev pub becoming : Option Becoming → Piece → Piece
+becoming next (piece.Unit unit) = piece.Unit (record unit { becomes = next })
 becoming next p = p
 
 -- an actor with that state; anything else as it was

@@ -63,8 +63,8 @@ impl Piece {
         }
     }
 
-    /// Puts what the actor of a unit becomes at its end.
-    pub(crate) fn turn_into(&mut self, next: Becoming)
+    /// Puts what the actor of a unit becomes at its end, where that is said.
+    pub(crate) fn turn_into(&mut self, next: Option<Becoming>)
         ensures { self.new ≡ becoming next self.old }
     {
         match self {

@@ -189,12 +189,12 @@ impl Places {
         move_unit(&mut self.records, name, machine, made);
     }
 
-    /// Puts what the unit's actor becomes at its end.
-    pub(crate) fn turn_into(&mut self, name: &Name, next: Becoming)
+    /// Puts what the unit's actor becomes at its end, where that is said.
+    pub(crate) fn turn_into(&mut self, name: &Name, next: Option<Becoming>)
         requires kept { IsKept (board_of self.old) self.old.waits }
         requires there { IsSome (unit_at (board_of self.old) name.now) }
         ensures kept { IsKept (board_of self.new) self.new.waits }
-        ensures turned { IfSome (unit_at (board_of self.old) name.now) (λ unit. IsPutAt name.now (Some (piece.Unit (record unit { becomes = Some next }))) (board_of self.old) (board_of self.new)) }
+        ensures turned { IfSome (unit_at (board_of self.old) name.now) (λ unit. IsPutAt name.now (Some (piece.Unit (record unit { becomes = next }))) (board_of self.old) (board_of self.new)) }
         ensures claims { SameClaims (board_of self.old) (board_of self.new) }
         ensures places { (other : Called) → HasPlace (board_of self.old) other → HasPlace (board_of self.new) other }
         ensures slots { SameSlots (board_of self.old) (board_of self.new) }

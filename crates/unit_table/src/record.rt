@@ -121,8 +121,8 @@ pub(crate) fn move_unit(
     }
 }
 
-/// Puts what the actor of the unit in the place becomes at its end, where there is one. It takes no memory.
-pub(crate) fn turn_into(records: &mut BTreeMap<Name, Record>, name: &Name, next: Becoming)
+/// Puts what the actor of the unit in the place becomes at its end, where that is said. It takes no memory.
+pub(crate) fn turn_into(records: &mut BTreeMap<Name, Record>, name: &Name, next: Option<Becoming>)
     ensures { IsChanged name.now records.old.entries records.new.entries (λ r after. after ≡ record r { piece = option_map (becoming next) r.piece }) }
 {
     match records.get_mut(name) {
@@ -157,7 +157,7 @@ impl Record {
         }
     }
 
-    fn turn_into(&mut self, next: Becoming)
+    fn turn_into(&mut self, next: Option<Becoming>)
         ensures { self.new ≡ record self.old { piece = option_map (becoming next) self.old.piece } }
     {
         match &mut self.piece {

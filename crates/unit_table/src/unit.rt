@@ -70,10 +70,10 @@ impl Unit {
         self.made = made;
     }
 
-    /// Puts what the unit's actor becomes at its end.
-    pub(crate) fn turn_into(&mut self, becoming: Becoming)
-        ensures { self.new ≡ record self.old { becomes = Some becoming } }
+    /// Puts what the unit's actor becomes at its end, where that is said.
+    pub(crate) fn turn_into(&mut self, becoming: Option<Becoming>)
+        ensures { self.new ≡ record self.old { becomes = becoming } }
     {
-        self.becomes = Some(becoming);
+        self.becomes = becoming;
     }
 }

@@ -190,7 +190,17 @@ impl Units {
         ensures claims { SameClaims self.old self.new }
         ensures places { (other : Called) → HasPlace self.old other → HasPlace self.new other }
     {
-        self.places.turn_into(name, next);
+        self.places.turn_into(name, Some(next));
+    }
+
+    /// What the unit's actor was to become before is what it becomes, and nothing where that was not said. It takes no memory.
+    pub fn turn_back(&mut self, name: &Name, before: Option<Becoming>)
+        requires { IsSome (unit_at self.old name.now) }
+        ensures turned { IfSome (unit_at self.old name.now) (λ unit. IsPutAt name.now (Some (piece.Unit (record unit { becomes = before }))) self.old self.new) }
+        ensures claims { SameClaims self.old self.new }
+        ensures places { (other : Called) → HasPlace self.old other → HasPlace self.new other }
+    {
+        self.places.turn_into(name, before);
     }
 
     /// The actor's state. It takes no memory.

@@ -1,5 +1,5 @@
 -- What becomes of actors and of their mail.
-use Rattle.std.specs.Prelude.{◌≡◌, ◌||◌, ◌++◌, ◌∷◌, [], ℕ, List, Option, None, Some, Bool, true, false, cond, is_some, map}
+use Rattle.std.specs.Prelude.{◌≡◌, ◌||◌, ◌++◌, ◌∷◌, [], ℕ, List, Option, None, Some, Bool, true, false, is_some}
 use Rattle.std.specs.Option.{option_map}
 use Rattle.actor_mailbox.specs.declared.message.Message.{Message}
 use Rattle.actor_mails.specs.Mails.{Mail, IsMailed, mail_at}
@@ -79,8 +79,8 @@ pub record FinishesTurn (old : Shared) (u : Name) (x : Unit) (a : Name) (v : Val
 abbrev pub spawned : List Effect → Name → Option ActorState
 spawned effects = effects_actors effects (λ name. None)
 
--- what stands under a name after effects: a new actor; or what stood there, which has mail now where something was sent to it
-abbrev pub acted : Bool → Option ActorState → List (List Value) → List Message → Option Piece → Option Piece
-acted begun (Some state) sent mail found = Some (actor_with state mail)
+-- what stands under a name after effects: a new actor; or what stood there, which has mail now where something is put last in it
+abbrev pub acted : Bool → Option ActorState → List Message → List Message → Option Piece → Option Piece
+acted begun (Some state) last mail found = Some (actor_with state mail)
 acted begun None [] mail found = found
-acted begun None (args ∷ more) mail found = roused_unless begun found
+acted begun None (m ∷ ms) mail found = roused_unless begun found

@@ -1,5 +1,5 @@
 -- What becomes of pieces and claims.
-use Rattle.std.specs.Prelude.{◌≡◌, ◌||◌, ◌&&◌, ◌++◌, ◌∷◌, [], Bool, true, false, Option, None, Some, cond, is_some}
+use Rattle.std.specs.Prelude.{◌≡◌, ◌||◌, ◌&&◌, ◌++◌, ◌∷◌, [], Bool, true, false, Option, None, Some, cond, is_some, not}
 use Rattle.serial_model.specs.declared.end.End.{End}
 use Rattle.serial_model.specs.declared.entry.Entry.{Entry}
 use Rattle.serial_model.specs.declared.entry.Entry.TheVariants.{Run}
@@ -9,7 +9,7 @@ use Rattle.shared_world.specs.declared.given.Given.TheVariants as given
 use Rattle.shared_world.specs.Shared.{claimed, is_going, Shared, unit_state}
 use Rattle.shared_world.specs.Stands.{IsMachine}
 use Rattle.task_fork_join.specs.Attempt.{Attempt}
-use Rattle.unit_table.specs.Board.{Board, SamePieces, piece_at}
+use Rattle.unit_table.specs.Board.{Board, SamePieces, marks_ready, piece_at}
 use Rattle.unit_table.specs.declared.mark.Mark.{Mark}
 use Rattle.unit_table.specs.declared.mark.Mark.TheVariants as mark
 use Rattle.unit_table.specs.declared.mark.Work.TheVariants as work
@@ -28,6 +28,10 @@ but_gone gone (Some name) = cond (gone name) None (Some name)
 
 abbrev pub ClaimsEnd : (Name → Bool) → Shared → Shared → Type 0
 ClaimsEnd gone old new = is_going new.end ≡ true → (ticket : Ticket) → claimed new ticket ≡ but_gone gone (claimed old ticket)
+
+-- nothing can be done with what stands there, or nothing does
+abbrev pub is_idle : Board → Name → Bool
+is_idle b name = not (marks_ready (piece_at b name))
 
 -- that stands under the name; where it is finished, what waited for that is ready to settle; every other piece stays
 pub record IsSet (name : Name) (p : Piece) (m : Mark) (old new : Board) : Type 0 where

@@ -1,10 +1,11 @@
 -- What a task of an attempt comes to.
-use Rattle.std.specs.Prelude.{◌≡◌, Option, None, Some, All}
+use Rattle.std.specs.Prelude.{◌≡◌, ◌++◌, List, Option, None, Some, All}
 use Rattle.std.specs.List.{slice_get}
 use Rattle.eval_step.specs.Evaluation.{Evaluation, IsOf, IsSame}
 use Rattle.ref_store.specs.declared.version.Version.{Version}
 use Rattle.ref_store.specs.Store.{versions_of}
 use Rattle.ref_store.specs.Version.{newest}
+use Rattle.serial_model.specs.declared.effect.Effect.{Effect}
 use Rattle.serial_model.specs.declared.end.End.TheVariants as ending
 use Rattle.serial_model.specs.declared.halt.Halt.{Halt}
 use Rattle.serial_model.specs.declared.halt.Halt.TheVariants as halt
@@ -13,8 +14,11 @@ use Rattle.shared_world.specs.Ahead.{Ahead}
 use Rattle.shared_world.specs.declared.given.Given.{Given}
 use Rattle.shared_world.specs.declared.given.Given.TheVariants as given
 use Rattle.shared_world.specs.Returned.{halt_of}
-use Rattle.shared_world.specs.rows.Attempts.{Aborts, Commits}
+use Rattle.shared_world.specs.rows.Commits.{Commits}
 use Rattle.shared_world.specs.rows.Pieces.{Ends, IsSet}
+use Rattle.shared_world.specs.rows.Sending.{Posts, Send, sends_in}
+use Rattle.shared_world.specs.rows.Undoing.{Aborts}
+use Rattle.shared_world.specs.Seen.{done_by_root}
 use Rattle.shared_world.specs.Shared.{Shared, finished_at}
 use Rattle.task_fork_join.specs.Attempt.{Attempt, end_at}
 use Rattle.task_fork_join.specs.declared.stepped.Stepped.{Stepped}
@@ -99,15 +103,30 @@ abbrev pub AfterStep : Shared → Name → Unit → Name → Attempt → Stepped
 AfterStep old u x task tree went None found new = StepGives old u x task tree went found new
 AfterStep old u x task tree went (Some ended) found new = RootGives old u x task tree ended found new
 
--- the task of that machine takes a step, and that comes of it
-pub record TakesStep (old : Shared) (u : Name) (x : Unit) (task : Name) (tree : Attempt) (machine : Evaluation) (found : Given) (new : Shared) : Type 0 where
+-- the task of that machine takes a step; what the root of the attempt has done more by it
+pub record HasStepped (old : Shared) (task : Name) (tree : Attempt) (machine : Evaluation) : Type 0 where
   pub moved : Evaluation
   pub same : IsSame machine moved
   pub after : Attempt
   pub went : Stepped
   pub of : IsOf old.setup.program moved
   pub step : IsStep (snapshot_of old.versions tree.snapshot) task moved (outer_of old.board (halt_of old.setup.program machine)) (halt_of old.setup.program machine) tree after went
-  pub comes : AfterStep (record old { attempts = with_named old.attempts u after }) u x task after went (end_at after) found new
+  pub more : List Effect
+  pub does : done_by_root after ≡ done_by_root tree ++ more
+
+-- What the root sends by the step is put at once or kept. Where it is at its end and its unit stands where the history left it the
+-- attempt is decided on right then, and nothing is put.
+abbrev pub StepPosts : Option TaskEnd → Option Ahead → Shared → Name → Name → List Send → List Send → Shared → Type 0
+StepPosts None ahead old u root sends more mid = Posts old u root sends more mid
+StepPosts (Some ended) (Some h) old u root sends more mid = Posts old u root sends more mid
+StepPosts (Some ended) None old u root sends more mid = mid ≡ old
+
+-- It does so, and that comes of it.
+pub record TakesStep (old : Shared) (u : Name) (x : Unit) (task : Name) (tree : Attempt) (machine : Evaluation) (found : Given) (new : Shared) : Type 0 where
+  pub by : HasStepped old task tree machine
+  pub mid : Shared
+  pub posts : StepPosts (end_at by.after) (named u old.aheads) old u tree.root (sends_in (done_by_root tree)) (sends_in by.more) mid
+  pub comes : AfterStep (record mid { attempts = with_named mid.attempts u by.after }) u x task by.after by.went (end_at by.after) found new
 
 -- a task that goes on takes a step
 abbrev pub StepsOn : Shared → Name → Unit → Name → Attempt → Option Evaluation → Given → Shared → Type 0

@@ -34,7 +34,7 @@ returns c =
     let to = c.args.to.now in
     let same = c.in_ok-settling.ensures.same ∙ ap (λ m. record old { mails = m }) c.in_ok-reserve.ensures.mail in
     let mailed : IsMailed to (settle_or_put (same_name name) (settled name c.args.args) (mail_at prep.mails to)) prep.mails (held c.settle_in.new.mails) =
-    subst (λ n. IsMailed to (settle_or_put (same_name name) (settled n c.args.args) (mail_at prep.mails to)) prep.mails (held c.settle_in.new.mails)) c.in_ok-sender.ensures c.settle_in.ensures in
+    subst (λ n. IsMailed to (settle_or_put (same_name name) (settled n c.args.args) (mail_at prep.mails to)) prep.mails (held c.settle_in.new.mails)) c.in_ok-sender.ensures c.settle_in.ensures.mail in
     let begun : c.is_some.result ≡ is_some (named to prep.taken) = c.is_some.ensures ∙ copied-there c.get.result ∙ ap is_some c.get.ensures in
     let put : IsPutAt to (roused_unless (is_some (named to prep.taken)) (piece_at prep.board to)) prep.board c.rouse_unless.new.units =
     subst (λ b. IsPutAt to (roused_unless b (piece_at prep.board to)) prep.board c.rouse_unless.new.units) begun c.rouse_unless.ensures.roused in

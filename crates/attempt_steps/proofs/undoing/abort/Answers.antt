@@ -1,4 +1,4 @@
-use Rattle.std.proofs.Common.{subst, sym}
+use Rattle.std.proofs.Common.{refl, subst, sym}
 use Rattle.world_steps.specs.Kept.{shared_of}
 use Rattle.attempt_steps.specs.Undoing.{HasAborted}
 use Rattle.attempt_steps.proofs.undoing.abort.Goals as goal
@@ -6,5 +6,7 @@ use Rattle.shared_world.specs.declared.given.Given.TheVariants as given
 
 pub returns : goal.returns
 returns c =
-    subst (λ n. HasAborted (shared_of c.args.kept.now) c.args.owner.now c.args.name c.args.version (shared_of c.undo.new.kept) (given.Aborted n c.args.name c.args.version)) (sym c.in_ok-unit.ensures)
-    (c.in_ok-undo.ensures.undone c.args.name c.args.version)
+    subst (λ n. HasAborted (shared_of c.args.kept.now) c.args.owner.now c.args.name c.args.version (shared_of c.undo_attempt.new.kept) (given.Aborted n c.args.name c.args.version)) (sym c.in_ok-unit.ensures) (record {
+      row = λ x tree there attempt. record { found_is = refl; undoes = c.in_ok-undo_attempt.ensures.undone x tree there attempt };
+      claims = c.in_ok-undo_attempt.ensures.claims;
+    })

@@ -1,6 +1,7 @@
-use Rattle.std.proofs.Common.{subst}
-use Rattle.lent_pieces.proofs.Given.{body-there, unit-gave-so, unit-of}
+use Rattle.std.proofs.Common.{ap, subst}
+use Rattle.lent_pieces.proofs.Given.{body-there, task-of, unit-gave-so, unit-of}
 use Rattle.lent_pieces.specs.Giving.{IsStanderOf}
+use Rattle.shared_world.specs.Shared.{is_going}
 use Rattle.world_steps.specs.Kept.{shared_of}
 use Rattle.lent_pieces.proofs.giving.give_moved.Goals as goal
 
@@ -18,3 +19,8 @@ pub returns-in-Unit : goal.returns-in-Unit
 returns-in-Unit c =
     let s = shared_of c.args.kept.now in
     unit-gave-so s (shared_of c.give_unit.new.self) c.requires.stands c.args.name.now c.args.moved c.give_unit.result (subst (IsStanderOf s c.args.name.now) c.in-Unit.is c.in_ok-stander_of.ensures).level (subst (IsStanderOf s c.args.name.now) c.in-Unit.is c.in_ok-stander_of.ensures).some c.requires.moved c.give_unit.ensures
+
+pub step_task-requires-clause-task : goal.step_task-requires-clause-task
+step_task-requires-clause-task c =
+    let s = shared_of c.args.kept.now in
+    task-of s c.requires.stands (ap is_going c.requires.going) c.args.name.now c.in-Task.owner c.args.moved (subst (IsStanderOf s c.args.name.now) c.in-Task.is c.in_ok-stander_of.ensures) c.requires.moved c.requires.there

@@ -1,7 +1,7 @@
 use Rattle.std.proofs.Common.{subst}
 use Rattle.run_end.proofs.Ends.{ending-then, none-behind, passed-one}
 use Rattle.run_end.proofs.finishing.end_claims.Goals as goal
-use Rattle.run_end.specs.Finishing.{IsNextOr}
+use Rattle.world_reset.specs.Plan.{IsNextOr}
 
 pub returns-in-None-clause-none : goal.returns-in-None-clause-none
 returns-in-None-clause-none c = none-behind c.loop.passed c.loop.units (subst (IsNextOr c.loop.units c.loop.passed) c.in-None.is c.in_ok-name.ensures) c.lent_are_ready.ensures c.loop.invariant.after

@@ -1,4 +1,4 @@
-use Rattle.std.proofs.Common.{sym, subst}
+use Rattle.std.proofs.Common.{ap, sym, subst}
 use Rattle.run_end.proofs.Ends.{cleared-marks, cleared-stands, cleared-turns, over-none-tried}
 use Rattle.run_end.proofs.Turns.{turns-later, turns-then}
 use Rattle.run_end.proofs.Walked.{walked-first}
@@ -7,7 +7,7 @@ use Rattle.world_steps.specs.Kept.{shared_of}
 use Rattle.shared_world.specs.Marks.{HasMarks}
 use Rattle.shared_world.specs.Stands.{Stands}
 use Rattle.task_fork_join.specs.Attempt.{Attempt}
-use Rattle.value_core.specs.Named.{Named}
+use Rattle.value_core.specs.Named.{Named, named}
 
 pub returns-clause-stands : goal.returns-clause-stands
 returns-clause-stands c =
@@ -24,7 +24,7 @@ returns-clause-marks c =
     (c.settle_all.ensures.goes.marks (c.in_ok-withdraw.ensures.goes.marks marks)))
 
 pub settle_all-requires-clause-walked : goal.settle_all-requires-clause-walked
-settle_all-requires-clause-walked c = walked-first (shared_of c.withdraw.new.kept) c.in_ok-withdraw.ensures.tried
+settle_all-requires-clause-walked c = walked-first (shared_of c.withdraw.new.kept) c.in_ok-withdraw.ensures.tried c.in_ok-withdraw.ensures.level
 
 pub returns-in_err-withdraw-clause-later : goal.returns-in_err-withdraw-clause-later
 returns-in_err-withdraw-clause-later c = turns-later (shared_of c.args.kept.now) (shared_of c.withdraw.new.kept) c.withdraw.ensures.goes.turns
@@ -48,3 +48,17 @@ returns-clause-later c =
     let mid = shared_of c.settle_all.new.kept in
     turns-later (shared_of c.args.kept.now) (record mid { attempts = c.clear_attempts.new.attempts.entries })
     (cleared-turns (shared_of c.args.kept.now) mid _ (turns-then (shared_of c.args.kept.now) (shared_of c.withdraw.new.kept) mid c.withdraw.ensures.goes.turns c.settle_all.ensures.goes.turns))
+
+pub settle_all-requires-clause-marks : goal.settle_all-requires-clause-marks
+settle_all-requires-clause-marks c = c.in_ok-withdraw.ensures.goes.marks c.requires.marks
+
+pub returns-clause-finished : goal.returns-clause-finished
+returns-clause-finished c =
+    let over = c.in_ok-end.ensures.end in
+    let level = c.settle_all.ensures.goes.level c.in_ok-withdraw.ensures.level in
+    record {
+      over = record { state = over.state; replays = over.replays; over = over.over };
+      attempts = λ u. ap (named u) c.clear_attempts.ensures;
+      claims = c.settle_all.ensures.goes.claims c.in_ok-withdraw.ensures.claims;
+      level = record { aheads = level.aheads; taken = level.taken };
+    }

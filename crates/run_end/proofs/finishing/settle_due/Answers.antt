@@ -24,24 +24,27 @@ returns-then-waits-clause-goes c =
     let s = shared_of c.args.kept.now in
     let t = shared_of c.give_to.new.kept in
     gave-goes s t c.args.name.now c.in_ok-given.given c.requires.stands c.requires.going (due-open s.board c.args.name.now c.requires.due)
-    (due-turn s c.requires.stands c.requires.going c.in_ok-check_level.ensures c.args.passed c.args.name.now c.requires.walked c.requires.next c.requires.due c.in_ok-given.given t c.in_ok-given.ensures) c.in_ok-given.ensures
+    (due-turn s c.requires.stands c.requires.going c.args.passed c.args.name.now c.requires.walked c.requires.next c.requires.due c.in_ok-given.given t c.in_ok-given.ensures) c.in_ok-given.ensures
 
 pub returns-then-waits-clause-walked : goal.returns-then-waits-clause-walked
 returns-then-waits-clause-walked c =
     let s = shared_of c.args.kept.now in
     let t = shared_of c.give_to.new.kept in
     λ going. walked-anew t c.in_ok-left.left
-    (due-walked s c.requires.stands c.requires.going c.in_ok-check_level.ensures c.args.passed c.args.name.now c.requires.walked c.requires.next c.requires.due c.in_ok-given.given t c.in_ok-left.left c.in_ok-left.ensures c.in_ok-given.ensures)
+    (due-walked s c.requires.stands c.requires.going c.args.passed c.args.name.now c.requires.walked c.requires.next c.requires.due c.in_ok-given.given t c.in_ok-left.left c.in_ok-left.ensures c.in_ok-given.ensures)
 
 pub returns-else-waits-clause-goes : goal.returns-else-waits-clause-goes
 returns-else-waits-clause-goes c =
     let s = shared_of c.args.kept.now in
     let t = shared_of c.give_to.new.kept in
     gave-goes s t c.args.name.now c.in_ok-given.given c.requires.stands c.requires.going (due-open s.board c.args.name.now c.requires.due)
-    (due-turn s c.requires.stands c.requires.going c.in_ok-check_level.ensures c.args.passed c.args.name.now c.requires.walked c.requires.next c.requires.due c.in_ok-given.given t c.in_ok-given.ensures) c.in_ok-given.ensures
+    (due-turn s c.requires.stands c.requires.going c.args.passed c.args.name.now c.requires.walked c.requires.next c.requires.due c.in_ok-given.given t c.in_ok-given.ensures) c.in_ok-given.ensures
 
 pub returns-else-waits-clause-walked : goal.returns-else-waits-clause-walked
 returns-else-waits-clause-walked c =
     let s = shared_of c.args.kept.now in
     let t = shared_of c.give_to.new.kept in
-    λ going. due-walked s c.requires.stands c.requires.going c.in_ok-check_level.ensures c.args.passed c.args.name.now c.requires.walked c.requires.next c.requires.due c.in_ok-given.given t c.in_ok-left.left c.in_ok-left.ensures c.in_ok-given.ensures
+    λ going. due-walked s c.requires.stands c.requires.going c.args.passed c.args.name.now c.requires.walked c.requires.next c.requires.due c.in_ok-given.given t c.in_ok-left.left c.in_ok-left.ensures c.in_ok-given.ensures
+
+pub give_to-requires-clause-marks : goal.give_to-requires-clause-marks
+give_to-requires-clause-marks c = c.requires.marks (ap is_going c.requires.going)

@@ -1,7 +1,7 @@
 use Rattle.std.proofs.Common.{subst}
 use Rattle.run_end.proofs.Walked.{walked-anew}
 use Rattle.run_end.proofs.finishing.settle_next.Goals as goal
-use Rattle.run_end.specs.Finishing.{IsNextOr}
+use Rattle.world_reset.specs.Plan.{IsNextOr}
 use Rattle.world_steps.specs.Kept.{shared_of}
 
 pub settle_or_pass-requires-clause-next : goal.settle_or_pass-requires-clause-next

@@ -1,4 +1,4 @@
-use Rattle.attempt_steps.proofs.Live.{taken}
+use Rattle.attempts_gone.proofs.Live.{taken}
 use Rattle.schedule_drive.proofs.kept.take.Goals as goal
 
 pub returns-clause-gone : goal.returns-clause-gone

@@ -1,0 +1,4 @@
+pub mod Committing
+pub mod Effects
+pub mod Letters
+pub mod Settled

@@ -1,0 +1,3 @@
+pub mod Committing
+pub mod Deeds
+pub mod Settling

@@ -1,6 +1,0 @@
-use Rattle.std.proofs.Common.{drop}
-use Rattle.attempt_steps.specs.Deeds.{AreDeedsBut}
-use Rattle.attempt_steps.proofs.deeds.deeds_of.Given as goal
-
-abbrev pub invariant-loop-effect : goal.invariant-loop-effect
-invariant-loop-effect l = AreDeedsBut l.owner l.effects (drop l.effect-index l.effects) l.deeds

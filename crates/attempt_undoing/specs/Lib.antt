@@ -1,0 +1,4 @@
+pub mod Dropping
+pub mod Hanging
+pub mod Sends
+pub mod Undoing

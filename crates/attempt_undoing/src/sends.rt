@@ -1,0 +1,88 @@
+// What was sent is gone, from the mail and from what is taken.
+ghost use Rattle.std.specs.Prelude.{◌≡◌, ◌∷◌, ◌||◌, [], MatchOption, None, Some, cond, is_some};
+ghost use Rattle.actor_mails.specs.Mails.{held, mail_at};
+ghost use Rattle.attempt_undoing.specs.Sends.{mark_resting, marked_now, ActorsMarked, IsNewMark, IsRemarked, IsTakenLeft, SendsGone};
+ghost use Rattle.shared_world.specs.rows.Actors.{actor_mark, has_turn};
+ghost use Rattle.unit_table.specs.Board.{piece_at};
+ghost use Rattle.value_core.specs.Named.{named, same_name, Name as Called};
+ghost use Rattle.value_core.specs.Placed.{filled};
+ghost use Rattle.world_steps.specs.Kept.{shared_of};
+
+use crate::hanging::{Sent, has_taken};
+use actor_mailbox::Message;
+use unit_table::{Actor, Mark, Piece, Work};
+use value_core::{Name, Places};
+use world_steps::Kept;
+
+/// What was sent so is gone, from the mail and from what is taken, and each actor has the mark that it has without it. Only claims end
+/// on actors that are left without mail. It takes no memory.
+pub(crate) fn drop_sends(kept: &mut Kept, sends: &[Sent])
+    requires marks { ActorsMarked (shared_of kept.old) }
+    ensures gone { SendsGone sends.now (shared_of kept.old) (shared_of kept.new) }
+    ensures others { kept.new ≡ record kept.old { units = kept.new.units; mails = kept.new.mails; taken = kept.new.taken } }
+{
+    for sent in sends {
+        drop_sent(kept, sent);
+    }
+}
+
+/// What was sent to that receiver under that name is gone.
+fn drop_sent(kept: &mut Kept, sent: &Sent)
+    requires marks { ActorsMarked (shared_of kept.old) }
+    ensures gone { SendsGone (sent.now ∷ []) (shared_of kept.old) (shared_of kept.new) }
+    ensures others { kept.new ≡ record kept.old { units = kept.new.units; mails = kept.new.mails; taken = kept.new.taken } }
+{
+    kept.units.lent_are_ready();
+    kept.mails.drop_of(&sent.to, &sent.on);
+    drop_taken(&mut kept.taken, &sent.to, &sent.on);
+    mark_actor(kept, &sent.to);
+}
+
+/// What the actor has taken is gone where it depends on that name.
+fn drop_taken(taken: &mut Places<Message>, to: &Name, on: &Name)
+    ensures { IsTakenLeft to.now on.now (filled taken.old) (filled taken.new) }
+{
+    if has_taken(taken, to, on) {
+        let _message = taken.take(to);
+    }
+}
+
+/// The actor has the mark that it has by what is taken of it, and by its mail. Where it has that already, the claim on it stays.
+fn mark_actor(kept: &mut Kept, name: &Name)
+    ensures marked { (n : Called) → piece_at kept.new.units n ≡ cond (same_name n name.now) (marked_now (shared_of kept.old) n (piece_at kept.old.units n)) (piece_at kept.old.units n) }
+    ensures claims { IsRemarked name.now kept.old.units kept.new.units }
+    ensures others { kept.new ≡ record kept.old { units = kept.new.units } }
+{
+    if let Some(mark) = new_mark(kept, name) {
+        kept.units.mark(name, mark);
+    }
+}
+
+/// The mark of the actor, where it is another one than it has.
+fn new_mark(kept: &Kept, name: &Name) -> Option<Mark>
+    ensures { IsNewMark (shared_of kept.now) name.now (piece_at kept.now.units name.now) result }
+{
+    match kept.units.piece(name) {
+        Some(Piece::Actor(actor)) => other_mark(&actor.mark, must_rest(kept, name, actor)),
+        _ => None,
+    }
+}
+
+/// Whether the actor has a turn, or no mail.
+fn must_rest(kept: &Kept, name: &Name, actor: &Actor) -> bool
+    ensures { mark_resting result ≡ actor_mark (has_turn (filled kept.now.taken) name.now actor.now.state) (mail_at (held kept.now.mails) name.now) }
+{
+    actor.state.busy || kept.taken.get(name).is_some() || kept.mails.front(name).is_none()
+}
+
+/// The mark of an actor that rests or can begin a turn, where that is another one than this.
+fn other_mark(mark: &Mark, rests: bool) -> Option<Mark>
+    ensures { MatchOption result (mark.now ≡ mark_resting rests) (λ other. (other ≡ mark_resting rests) × (mark.now ≡ other → ⊥)) }
+{
+    match mark {
+        Mark::Resting if rests => None,
+        Mark::Ready(Work::Begin) if !rests => None,
+        _ if rests => Some(Mark::Resting),
+        _ => Some(Mark::Ready(Work::Begin)),
+    }
+}

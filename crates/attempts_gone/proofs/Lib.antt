@@ -1,0 +1,3 @@
+pub mod Dropped
+pub mod Gone
+pub mod Live

@@ -1,0 +1,11 @@
+use Rattle.std.proofs.Common.{◌∙◌, sym, ap}
+use Rattle.std.specs.Option.{is_some}
+use Rattle.attempt_steps.proofs.Waits.{same-some}
+use Rattle.turns_ahead.specs.Leading.{ahead_of}
+use Rattle.value_core.proofs.NamedViews.{named-each_as}
+use Rattle.world_steps.proofs.Acting.{copied-there}
+use Rattle.lent_pieces.proofs.leading.runs_ahead.Goals as goal
+
+pub returns : goal.returns
+returns c is_so =
+    sym (c.is_some.ensures ∙ copied-there c.find.result ∙ ap is_some c.find.ensures ∙ same-some ahead_of _ ∙ ap is_some (sym (named-each_as ahead_of c.args.name.now c.args.kept.now.aheads.entries))) ∙ is_so

@@ -1,0 +1,5 @@
+pub mod Backs
+pub mod Planned
+pub mod Returned
+pub mod Told
+pub mod Whole

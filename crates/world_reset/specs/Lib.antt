@@ -1,0 +1,4 @@
+pub mod Back
+pub mod Left
+pub mod Plan
+pub mod Putting
