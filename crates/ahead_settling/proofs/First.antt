@@ -13,7 +13,7 @@ use Rattle.core_syntax.specs.declared.node_id.NodeId.{NodeId}
 use Rattle.core_syntax.specs.Table.{Table}
 use Rattle.eval_step.specs.Evaluation.{Evaluation, IsOf}
 use Rattle.ref_store.specs.declared.version.Version.{Version}
-use Rattle.ref_store.specs.Store.{committed}
+use Rattle.ref_store.specs.Store.{committed, versions_of}
 use Rattle.serial_model.proofs.evaluation.Carries.{ask-is-there}
 use Rattle.serial_model.specs.declared.actor_state.ActorState.{ActorState}
 use Rattle.serial_model.specs.declared.end.End.{End}
@@ -234,10 +234,13 @@ printed-first old prep new u text bytes found opened prep_is bytes_are leaves un
     end_is : new.end ≡ old.end
     end_is = same_end ∙ ap (λ (s : Shared). s.end) prep_is
 
-pub ref-first : (old prep new : Shared) (u made : Name) (v : Value) (versions : Named (List Version)) (found : Given) → IsOpen old u → prep ≡ old → IsNextMade old u made → versions ≡ committed old.versions ((made, v) ∷ []) (suc (length old.history))
+pub ref-first : (old prep new : Shared) (u made : Name) (v : Value) (versions : Named (List Version)) (found : Given) → IsOpen old u → prep ≡ old → IsNextMade old u made → versions_of old.versions made ≡ [] → versions ≡ committed old.versions ((made, v) ∷ []) (suc (length old.history))
     → LeavesFirst (record prep { versions = versions }) u new found → IsUnlent u prep.board new.board → new.end ≡ prep.end → FirstSettled old u (request.NewRef v) new found
-ref-first old prep new u made v versions found opened prep_is called versions_are leaves unlent same_end = record {
-  row = λ x h rest there leading held. subst (λ n. LeadSettles (record old { versions = committed old.versions ((n, v) ∷ []) (suc (length old.history)) }) u x (left_after h (request.NewRef v) rest) (Run u) found new) (called h leading) (row_left x h rest there leading held);
+ref-first old prep new u made v versions found opened prep_is called none versions_are leaves unlent same_end = record {
+  row = λ x h rest there leading held. record {
+    none = subst (λ n. versions_of old.versions n ≡ []) (called h leading) none;
+    settles = subst (λ n. LeadSettles (record old { versions = committed old.versions ((n, v) ∷ []) (suc (length old.history)) }) u x (left_after h (request.NewRef v) rest) (Run u) found new) (called h leading) (row_left x h rest there leading held);
+  };
   claims = first-claims old base before new u found opened refl refl end_is (same-claims old.board) at_base leaves unlent (still-same old.board u);
 }
   where

@@ -91,6 +91,7 @@ fn settle_new_ref(
     ensures { FirstComes (shared_of kept.old) name.now (requests.NewRef content) (shared_of kept.new) result }
 {
     let made = next_made(kept, alloc, name)?;
+    kept.check_new_ref(&made)?;
     let writes = one_write(alloc, made, content)?;
     let number = kept.next_number()?;
     let settling = prepare(kept, alloc, name)?;

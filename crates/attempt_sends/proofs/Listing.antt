@@ -1,18 +1,19 @@
 -- The messages of sends, as they are listed from the last one.
 use Rattle.std.proofs.Common.{◌≡◌, ◌∙◌, ◌+◌, ℕ, suc, Bool, true, false, cond, drop, length, length-append, take, reverse, List, [], ◌∷◌, ◌++◌, append-nil, append_assoc, refl, sym, ap, ap₂, subst, arith}
 use Rattle.std.proofs.lemmas.List.{length-reverse, reverse-append}
-use Rattle.std.specs.Prelude.{Option}
+use Rattle.std.specs.Prelude.{Option, Some}
 use Rattle.attempt_sends.specs.declared.letters.Letter.{Letter}
-use Rattle.attempt_sends.specs.Letters.{count_sent, held_sends, letter_of, letters_of}
+use Rattle.attempt_sends.specs.Letters.{AreLeft, held_sends, left_at, letter_of, letters_of, noted_or}
 use Rattle.serial_model.specs.declared.effect.Effect.{Effect}
 use Rattle.serial_model.specs.declared.effect.What.{What}
 use Rattle.serial_model.specs.declared.effect.What.TheVariants as what
 use Rattle.serial_model.specs.Sends.{effects_to, what_sends}
 use Rattle.shared_world.proofs.Posting.{args-in, sends-append}
 use Rattle.shared_world.specs.Ahead.{Ahead}
-use Rattle.shared_world.specs.rows.Sending.{Send, args_to, send_in, sends_in}
+use Rattle.shared_world.specs.rows.Sending.{Send, send_in, sends_in}
 use Rattle.value_core.specs.declared.value.Value.{Value}
-use Rattle.value_core.specs.Named.{Name}
+use Rattle.value_core.proofs.NamedLaws.{named-with_named, same_name-equal, same_name-itself}
+use Rattle.value_core.specs.Named.{Name, Named, named, same_name, with_named}
 use Rattle.world_model.proofs.lists.Lists.{drop-left, flat_map-append}
 use Rattle.world_model.specs.Message.{tentative}
 
@@ -78,10 +79,56 @@ letter-so u root held done to args earlier letter is count =
 
 -- ---- how many are sent to an actor
 -- what one effect more sends
-pub counts-next : (to : Name) (e : Effect) (below : List Effect) (count : ℕ) (total : ℕ) (sends : Bool) → length (what_sends to e.what) ≡ cond sends 1 0 → count + length (effects_to to (reverse (e ∷ below))) ≡ total
-    → (count + cond sends 1 0) + length (effects_to to (reverse below)) ≡ total
-counts-next to e below count total sends one is =
-    let whole : length (effects_to to (reverse (e ∷ below))) ≡ length (effects_to to (reverse below)) + length (effects_to to (e ∷ [])) =
-    ap (λ l. length (effects_to to l)) (reverse-first e below) ∙ ap length (flat_map-append (λ (k : Effect). what_sends to k.what) (reverse below) (e ∷ [])) ∙ length-append (effects_to to (reverse below)) (effects_to to (e ∷ [])) in
-    let last : length (effects_to to (e ∷ [])) ≡ cond sends 1 0 = ap length (append-nil (what_sends to e.what)) ∙ one in
-    omega (arith, whole, last, is)
+one-more : (actor : Name) (effects : List Effect) (e : Effect) → length (effects_to actor (effects ++ e ∷ [])) ≡ length (effects_to actor effects) + length (what_sends actor e.what)
+one-more actor effects e =
+    ap length (flat_map-append (λ (k : Effect). what_sends actor k.what) effects (e ∷ [])) ∙ length-append (effects_to actor effects) (effects_to actor (e ∷ []))
+    ∙ ap (λ n. length (effects_to actor effects) + n) (ap length (append-nil (what_sends actor e.what)))
+
+-- before anything is noted all are left
+pub all-left : (all these : List Effect) → these ≡ all → AreLeft [] all these
+all-left all these is actor = ap (λ es. length (effects_to actor es)) (sym is)
+
+-- of those up to an effect: as they are listed
+pub left-up : (counts : Named ℕ) (all below : List Effect) (e : Effect) → AreLeft counts all (reverse (e ∷ below)) → AreLeft counts all (reverse below ++ e ∷ [])
+left-up counts all below e left = subst (AreLeft counts all) (reverse-first e below) left
+
+-- what is no send sends nothing
+pub sends-nothing : (w : What) → ((to : Name) (args : List Value) → w ≡ what.Send to args → ⊥) → send_in w ≡ []
+sends-nothing (what.Send to args) none = absurd (none to args refl)
+sends-nothing (what.Bytes text) none = refl
+sends-nothing (what.Spawn name behaviour state) none = refl
+sends-nothing (what.Become behaviour state) none = refl
+
+pub sends-none : (w : What) → ((to : Name) (args : List Value) → w ≡ what.Send to args → ⊥) → (actor : Name) → what_sends actor w ≡ []
+sends-none (what.Send to args) none actor = absurd (none to args refl)
+sends-none (what.Bytes text) none actor = refl
+sends-none (what.Spawn name behaviour state) none actor = refl
+sends-none (what.Become behaviour state) none actor = refl
+
+-- what sends nothing takes none away
+pub left-same : (counts : Named ℕ) (all these : List Effect) (e : Effect) → ((actor : Name) → what_sends actor e.what ≡ []) → AreLeft counts all (these ++ e ∷ []) → AreLeft counts all these
+left-same counts all these e none left actor =
+    let whole = one-more actor these e in let no : length (what_sends actor e.what) ≡ 0 = ap length (none actor) in let is = left actor in omega (arith, whole, no, is)
+
+-- what sends to an actor takes one away of it
+pub left-less : (old new : Named ℕ) (all these : List Effect) (e : Effect) (to : Name) (args : List Value) (count : ℕ) → e.what ≡ what.Send to args → count + 1 ≡ left_at to old all → new ≡ with_named old to count
+    → AreLeft old all (these ++ e ∷ []) → AreLeft new all these
+left-less old new all these e to args count is less put left actor = ap (λ n. left_at actor n all) put ∙ ap (λ o. noted_or o actor all) (named-with_named actor to count old) ∙ on (same_name actor to) refl
+  where
+    so : length (effects_to actor these) + length (what_sends actor (what.Send to args)) ≡ left_at actor old all
+    so = ap (λ w. length (effects_to actor these) + length (what_sends actor w)) (sym is) ∙ sym (one-more actor these e) ∙ sym (left actor)
+
+    on : (c : Bool) → same_name actor to ≡ c → noted_or (cond c (Some count) (named actor old)) actor all ≡ length (effects_to actor these)
+    on true same =
+        let one : length (what_sends actor (what.Send to args)) ≡ 1 = ap (λ b. length (cond b (args ∷ []) [])) same in
+        let here : count + 1 ≡ left_at actor old all = less ∙ ap (λ n. left_at n old all) (sym (same_name-equal actor to same)) in
+        let whole = so in omega (arith, one, here, whole)
+    on false same =
+        let none : length (what_sends actor (what.Send to args)) ≡ 0 = ap (λ b. length (cond b (args ∷ []) [])) same in
+        let whole = so in omega (arith, none, whole)
+
+-- how many came before it
+pub counted-before : (counts : Named ℕ) (all these : List Effect) (e : Effect) (to : Name) (args : List Value) (count : ℕ) → e.what ≡ what.Send to args → count + 1 ≡ left_at to counts all → AreLeft counts all (these ++ e ∷ []) → count ≡ length (effects_to to these)
+counted-before counts all these e to args count is less left =
+    let one : length (what_sends to e.what) ≡ 1 = ap (λ w. length (what_sends to w)) is ∙ ap (λ b. length (cond b (args ∷ []) [])) (same_name-itself to) in
+    let whole = one-more to these e in let up = left to in omega (arith, one, whole, up, less)

@@ -47,14 +47,7 @@ fn since(kept: &Kept, alloc: Global, unit: &Name, before: usize) -> Result<Vec<L
     match find(&kept.attempts, unit) {
         Some(tree) => {
             let turn = find(&kept.aheads, unit);
-            letters_since(
-                alloc,
-                unit,
-                tree.root_name(),
-                turn,
-                tree.root().effects(),
-                before,
-            )
+            letters_since(alloc, unit, tree.root_name(), turn, tree.root(), before)
         }
         None => Err(AllocError),
     }

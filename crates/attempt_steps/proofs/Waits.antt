@@ -1,6 +1,6 @@
 -- Units that wait, on which no claim is.
 use Rattle.std.proofs.Common.{◌≡◌, ◌∙◌, true, false, refl, sym, ap}
-use Rattle.std.specs.Option.{IsSome, option_map}
+use Rattle.std.specs.Option.{IsSome}
 use Rattle.std.specs.Prelude.{None, Option, Some, is_some}
 use Rattle.shared_world.specs.Ahead.{Ahead}
 use Rattle.attempt_commits.specs.Committing.{IsTrying}
@@ -30,8 +30,3 @@ level-of s owner is = on (named owner s.aheads) is
     on : (o : Option Ahead) → false ≡ is_some o → o ≡ None
     on None so = refl
     on (Some ahead) so = cc
-
--- what is there is seen
-pub same-some : {X Y : Type 0} (f : X → Y) (o : Option X) → is_some o ≡ is_some (option_map f o)
-same-some f None = refl
-same-some f (Some x) = refl

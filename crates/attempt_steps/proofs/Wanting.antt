@@ -1,5 +1,5 @@
 -- What is left for want of memory, and steps of tasks.
-use Rattle.std.proofs.Common.{◌≡◌, ◌∙◌, ◌++◌, ℕ, true, false, inl, inr, length, take, drop, List, refl, sym, ap, subst}
+use Rattle.std.proofs.Common.{◌≡◌, ◌∙◌, ◌≤◌, ◌++◌, ℕ, true, false, inl, inr, le_trans, length, take, drop, List, refl, sym, ap, subst}
 use Rattle.std.specs.Prelude.{◌⊎◌}
 use Rattle.std.specs.Option.{IsSome, option_and_then, option_map}
 use Rattle.std.specs.Prelude.{Err, IfSome, None, Ok, Option, Result, Some, is_some}
@@ -19,6 +19,7 @@ use Rattle.serial_model.specs.declared.halt.Halt.TheVariants as halt
 use Rattle.serial_model.specs.declared.request.Request.TheVariants as request
 use Rattle.serial_model.specs.State.{UnitState}
 use Rattle.shared_world.proofs.ActorPieces.{actor_of_piece}
+use Rattle.shared_world.proofs.Few.{none-gone, none-gone-put}
 use Rattle.shared_world.proofs.Live.{no-unit}
 use Rattle.shared_world.proofs.MarkedTasks.{ended-beside, left-again, left-ended, left-missing, left-now, left-settling, missing-beside}
 use Rattle.shared_world.proofs.Marks.{pieces-marks}
@@ -71,6 +72,7 @@ same-wanting old new name st is = record {
   others = λ other ne. is.pieces other;
   claims = λ ticket free. is.claims.to ticket;
   ages = λ u. ap (λ (s : Shared). age_of s u) is.rest;
+  no_fewer = none-gone old new (ap (λ (s : Shared). s.attempts) is.rest);
   marks = same-marks old new is;
   rest = is.rest ∙ ap (λ a. record old { attempts = a; board = new.board }) (sym (ap (λ (s : Shared). s.attempts) is.rest));
 }
@@ -83,19 +85,21 @@ settling-wanting old new task m st at is = record {
   others = λ other ne. is.marked.set.others other ne;
   claims = is.claims;
   ages = λ u. ap (λ (s : Shared). age_of s u) is.marked.others;
+  no_fewer = none-gone old new (ap (λ (s : Shared). s.attempts) is.marked.others);
   marks = λ marks going. left-settling old (marks (sym (ap (λ (s : Shared). is_going s.end) is.marked.others) ∙ going)) task m at new is.marked;
   rest = is.marked.others ∙ ap (λ a. record old { attempts = a; board = new.board }) (sym (ap (λ (s : Shared). s.attempts) is.marked.others));
 }
 
 -- what is left after what took a step on what is the same but for room
-pub wanting-again : (old mid new : Shared) (name : Name) → SamePieces old.board mid.board → ((t : Ticket) → lent_to mid.board t ≡ lent_to old.board t) → mid ≡ record old { attempts = mid.attempts; board = mid.board } → ((u : Name) → age_of mid u ≡ age_of old u) → (HasMarks old → HasMarks mid) → IsWanting mid name new
+pub wanting-again : (old mid new : Shared) (name : Name) → SamePieces old.board mid.board → ((t : Ticket) → lent_to mid.board t ≡ lent_to old.board t) → mid ≡ record old { attempts = mid.attempts; board = mid.board } → ((u : Name) → age_of mid u ≡ age_of old u) → length old.attempts ≤ length mid.attempts → (HasMarks old → HasMarks mid) → IsWanting mid name new
     → IsWanting old name new
-wanting-again old mid new name pieces to rest ages marks is = record {
+wanting-again old mid new name pieces to rest ages no_fewer marks is = record {
   stands = is.stands;
   here = on (piece_at new.board name) is.here;
   others = λ other ne. is.others other ne ∙ pieces other;
   claims = λ ticket free. is.claims ticket (λ lent. free (sym (to ticket) ∙ lent)) ∙ to ticket;
   ages = λ u. is.ages u ∙ ages u;
+  no_fewer = le_trans no_fewer is.no_fewer;
   marks = λ right. is.marks (marks right);
   rest = is.rest ∙ ap (λ (s : Shared). record s { attempts = new.attempts; board = new.board }) rest;
 }
@@ -303,6 +307,9 @@ module _ (old mid : Shared) (st : Stands old) (on_going : is_going old.end ≡ t
       ages-so : new ≡ record base { board = new.board } → (u : Name) → age_of new u ≡ age_of old u
       ages-so so u = ap (λ (s : Shared). age_of s u) so ∙ same-age old owner is.tree t.after is.task_in.attempt t.step.stays.snapshot u
 
+      none-gone-so : new ≡ record base { board = new.board } → length old.attempts ≤ length new.attempts
+      none-gone-so so = none-gone-put old new owner t.after (ap (λ (s : Shared). s.attempts) so)
+
       unended_so : end_at is.tree ≡ None
       unended_so = at-attempt (named owner old.attempts) (λ (a : Attempt). end_at a ≡ None) is.tree is.task_in.attempt unended
 
@@ -321,6 +328,7 @@ module _ (old mid : Shared) (st : Stands old) (on_going : is_going old.end ≡ t
         others = λ other ne. readied.marked.set.others other ne;
         claims = readied.claims;
         ages = ages-so readied.marked.others;
+        no_fewer = none-gone-so readied.marked.others;
         marks = λ right going. marks right;
         rest = rest-so readied.marked.others;
       }
@@ -332,6 +340,7 @@ module _ (old mid : Shared) (st : Stands old) (on_going : is_going old.end ≡ t
         others = λ other ne. same.pieces other;
         claims = λ ticket free. same.claims.to ticket;
         ages = ages-so same.rest;
+        no_fewer = none-gone-so same.rest;
         marks = λ marks going. left-missing old (marks on_going) owner task is.task_in.unit is.tree is.task_in.mark is.task_in.there is.task_in.of is.task_in.unit_there is.task_in.attempt unended_so is.machine moved is.kept t.after went step base-stands on_going new held
             (same.pieces task ∙ is.task_in.there) (λ q other. same.pieces q) same.rest;
         rest = rest-so same.rest;
@@ -396,4 +405,4 @@ pub came-again : (old one new : Shared) (task : Name) (result : Result Given All
 came-again old one new task (Ok found) same came = gave-again old one.board same.pieces same.claims task found new (subst (λ (s : Shared). GaveTask s task found new) same.rest came)
 came-again old one new task (Err e) same came =
     wanting-again old one new task same.pieces same.claims.to (same.rest ∙ ap (λ a. record old { attempts = a; board = one.board }) (sym (ap (λ (s : Shared). s.attempts) same.rest)))
-    (λ u. ap (λ (s : Shared). age_of s u) same.rest) (same-marks old one same) came
+    (λ u. ap (λ (s : Shared). age_of s u) same.rest) (none-gone old one (ap (λ (s : Shared). s.attempts) same.rest)) (same-marks old one same) came

@@ -1,5 +1,5 @@
 -- Tasks of attempts that take a step.
-use Rattle.std.specs.Prelude.{◌≡◌, ◌⊎◌, ℕ, Bool, Err, IfSome, None, Ok, Option, Result, Some, drop, is_some, length, take, false, true, ⊤}
+use Rattle.std.specs.Prelude.{◌≡◌, ◌≤◌, ◌⊎◌, ℕ, Bool, Err, IfSome, None, Ok, Option, Result, Some, drop, is_some, length, take, false, true, ⊤}
 use Rattle.std.specs.declared.alloc.AllocError.{AllocError}
 use Rattle.std.specs.Option.{IsSome}
 use Rattle.eval_step.specs.Evaluation.{Evaluation, IsAsk, IsAsking, IsOf, IsSame}
@@ -115,14 +115,15 @@ pub record IsReadyTask (found : Option Piece) : Type 0 where
   pub is : found ≡ Some (piece.Task (mark.Ready what))
 
 -- For want of memory the history, the refs, the bytes and the end stay, and so does every other piece; the piece is as it was, or
--- it is a task that can be evaluated again or is ready to settle; no claim ends but one on it; each attempt began where it did; and the marks are right where
--- they were.
+-- it is a task that can be evaluated again or is ready to settle; no claim ends but one on it; each attempt began where it did, and there are
+-- no fewer; and the marks are right where they were.
 pub record IsWanting (old : Shared) (name : Name) (new : Shared) : Type 0 where
   pub stands : Stands new
   pub here : (piece_at new.board name ≡ piece_at old.board name) ⊎ IsReadyTask (piece_at new.board name)
   pub others : (other : Name) → (other ≡ name → ⊥) → piece_at new.board other ≡ piece_at old.board other
   pub claims : (ticket : Ticket) → (lent_to old.board ticket ≡ Some name → ⊥) → lent_to new.board ticket ≡ lent_to old.board ticket
   pub ages : (u : Name) → age_of new u ≡ age_of old u
+  pub no_fewer : length old.attempts ≤ length new.attempts
   pub marks : HasMarks old → HasMarks new
   pub rest : new ≡ record old { attempts = new.attempts; board = new.board }
 

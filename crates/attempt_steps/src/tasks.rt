@@ -20,7 +20,7 @@ ghost use Rattle.value_core.specs.Named.{named};
 
 use crate::deciding::decide;
 use crate::undoing::abort;
-use crate::waiting::{check_trying, runs_ahead, wait_at_end, wait_for_turn};
+use crate::waiting::{check_trying, wait_at_end, wait_for_turn};
 use attempt_sends::post_sends;
 use eval_step::Machine;
 use ref_store::Store;
@@ -295,7 +295,7 @@ fn decide_at(
     requires there { IsSome (named owner.now kept.old.attempts.entries) }
     ensures { DecidesOr (shared_of kept.old) owner.now task.now before (shared_of kept.new) result }
 {
-    if runs_ahead(kept, owner) {
+    if kept.runs_ahead(owner) {
         return wait_at_end(kept, alloc, owner, task, before);
     }
     check_trying(kept, owner)?;
@@ -429,7 +429,7 @@ fn miss(
 {
     match newest_number(kept, &name) {
         Some(number) => abort(kept, alloc, owner, name, number),
-        None if runs_ahead(kept, owner) => wait_for_turn(kept, alloc, owner, task),
+        None if kept.runs_ahead(owner) => wait_for_turn(kept, alloc, owner, task),
         None => Err(AllocError),
     }
 }

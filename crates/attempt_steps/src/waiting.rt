@@ -1,5 +1,5 @@
 // Attempts whose unit runs ahead of the history, and those that can be decided on.
-ghost use Rattle.std.specs.Prelude.{◌≡◌, IfSome, OnOk, false, is_some};
+ghost use Rattle.std.specs.Prelude.{◌≡◌, IfSome, OnOk, false};
 ghost use Rattle.std.specs.Option.{IsSome};
 ghost use Rattle.attempt_commits.specs.Committing.{IsTrying};
 ghost use Rattle.attempt_steps.specs.Deciding.{IsWaitingUnit};
@@ -15,15 +15,7 @@ use shared_world::Given;
 use std::alloc::{AllocError, Global};
 use unit_table::{Mark, WaitOn};
 use value_core::Name;
-use value_core::name_map::find;
 use world_steps::Kept;
-
-/// Whether a turn of that name runs ahead.
-pub(crate) fn runs_ahead(kept: &Kept, owner: &Name) -> bool
-    ensures { result ≡ is_some (named owner.now (shared_of kept.now).aheads) }
-{
-    find(&kept.aheads, owner).is_some()
-}
 
 /// The task waits until the turn, which runs ahead, is definite and holds nothing. For want of memory nothing changes.
 pub(crate) fn wait_for_turn(
@@ -67,7 +59,7 @@ pub(crate) fn check_trying(kept: &Kept, owner: &Name) -> Result<(), AllocError>
     requires there { IsSome (named owner.now kept.now.attempts.entries) }
     ensures { OnOk result (IsTrying (shared_of kept.now) owner.now) }
 {
-    if runs_ahead(kept, owner) {
+    if kept.runs_ahead(owner) {
         return Err(AllocError);
     }
     check_waiting(kept, owner)?;

@@ -1,24 +1,21 @@
 -- All that hangs on an attempt is found, and nothing else.
 use Rattle.std.proofs.Common.{◌≡◌, ◌∙◌, ◌⊎◌, Bool, true, false, inl, inr, List, [], ◌∷◌, ◌++◌, refl, sym, ap, subst}
-use Rattle.std.specs.List.{list_any}
 use Rattle.std.specs.Prelude.{None, Option, Some, ◌||◌, cond}
 use Rattle.actor_mailbox.specs.declared.message.Message.{Message}
 use Rattle.actor_mailbox.specs.Messages.{passes}
-use Rattle.attempt_undoing.proofs.Finding.{TookOn, took-on, turn-hangs}
+use Rattle.attempt_undoing.proofs.Finding.{took-on, turn-hangs}
 use Rattle.attempt_undoing.proofs.Lists.{or-left, or-one, or-right}
 use Rattle.attempt_undoing.specs.declared.hanging.Sent.{Sent}
 use Rattle.attempt_undoing.specs.Hanging.{depends_in, effect_receiver, effect_receivers, goes_with, is_root_in, is_root_of, is_sent, next_turn, turn_on, IsAll}
-use Rattle.serial_model.specs.declared.actor_state.ActorState.{ActorState}
 use Rattle.serial_model.specs.declared.effect.Effect.{Effect}
 use Rattle.serial_model.specs.declared.effect.What.{What}
 use Rattle.serial_model.specs.declared.effect.What.TheVariants as what
 use Rattle.serial_model.specs.declared.request.Request.{Request}
 use Rattle.serial_model.specs.declared.request.Request.TheVariants as request
-use Rattle.serial_model.specs.Sends.{effects_to, if_to, sends_to, what_sends}
+use Rattle.serial_model.specs.Sends.{effects_to, sends_to, what_sends}
 use Rattle.shared_world.proofs.Gone.{seen-as}
 use Rattle.shared_world.proofs.Hangs.{IsSentBy, no-unit-at, same-unit, sent-by, turn-there, unit-of}
 use Rattle.shared_world.proofs.Hangs as by_whom
-use Rattle.shared_world.proofs.Live.{state-there}
 use Rattle.shared_world.specs.Ahead.{Ahead}
 use Rattle.shared_world.specs.Dependence as depends
 use Rattle.shared_world.specs.Dependence.{AreGone, DependsIn}
@@ -30,10 +27,9 @@ use Rattle.task_fork_join.specs.Attempt.{Attempt}
 use Rattle.tentative_turn.specs.Sending.{request_receivers}
 use Rattle.unit_table.specs.Board.{actor_at}
 use Rattle.value_core.proofs.NamedLaws.{same_name-equal, same_name-itself}
-use Rattle.value_core.specs.declared.value.Value.{Value}
-use Rattle.value_core.specs.Named.{Name, is_among, made_by, named, same_name}
+use Rattle.value_core.specs.Named.{Name, is_among, named, same_name}
 use Rattle.world_model.proofs.lists.Lists.{Each}
-use Rattle.world_model.specs.World.{LiveUnit, World, line}
+use Rattle.world_model.specs.World.{LiveUnit, World}
 
 -- ---- who is sent something is a receiver
 pub heard-request : (a : Name) (rs : List Request) → (sends_to a rs ≡ [] → ⊥) → is_among a (request_receivers rs) ≡ true

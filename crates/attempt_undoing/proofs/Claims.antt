@@ -1,15 +1,13 @@
 -- Which claims end where an attempt is undone.
-use Rattle.std.proofs.Common.{◌≡◌, ◌∙◌, ◌⊎◌, Bool, true, false, cond, inl, inr, List, [], ◌∷◌, refl, sym, ap, ap₂, subst}
-use Rattle.std.specs.Option.{option_and_then, option_map}
+use Rattle.std.proofs.Common.{◌≡◌, ◌∙◌, ◌⊎◌, Bool, true, false, cond, inl, inr, [], refl, sym, ap}
+use Rattle.std.specs.Option.{option_map}
 use Rattle.std.specs.Prelude.{None, Option, Some, ◌&&◌, is_some, not, if◌then◌else◌}
-use Rattle.actor_mails.specs.Mails.{mail_at}
 use Rattle.attempt_undoing.proofs.SendsGone.{right-marked}
 use Rattle.attempt_undoing.proofs.Undone.{unit-last}
 use Rattle.attempt_undoing.specs.declared.hanging.Hanging.{Hanging}
 use Rattle.attempt_undoing.specs.Dropping.{left_of}
 use Rattle.attempt_undoing.specs.Sends.{IsEnded, marked_now}
 use Rattle.attempt_undoing.specs.Undoing.{AreHanging, HangingGone, IsReadied}
-use Rattle.shared_world.proofs.ActorPieces.{not-same}
 use Rattle.shared_world.proofs.Live.{unit-piece}
 use Rattle.shared_world.specs.Gave.{is_gone}
 use Rattle.shared_world.specs.Marks.{AreMarkedBeside, UnitSays}
@@ -18,16 +16,16 @@ use Rattle.shared_world.specs.rows.Pieces.{but_gone}
 use Rattle.shared_world.specs.rows.Undoing.{IdleEnd}
 use Rattle.shared_world.specs.Shared.{Shared, is_going}
 use Rattle.shared_world.specs.Stands.{Stands}
-use Rattle.unit_table.specs.Board.{Board, LentAreReady, but_for, lent_to, mark_at, marks_ready, piece_at}
+use Rattle.unit_table.specs.Board.{LentAreReady, but_for, lent_to, mark_at, marks_ready, piece_at}
 use Rattle.unit_table.specs.declared.mark.Mark.{Mark}
 use Rattle.unit_table.specs.declared.mark.Mark.TheVariants as mark
 use Rattle.unit_table.specs.declared.mark.Work.TheVariants as work
 use Rattle.unit_table.specs.declared.piece.Piece.{Piece}
 use Rattle.unit_table.specs.declared.piece.Piece.TheVariants as piece
 use Rattle.unit_table.specs.Piece.{mark_in, says_ready}
-use Rattle.value_core.proofs.NamedLaws.{same_name-equal, same_name-itself}
+use Rattle.value_core.proofs.NamedLaws.{same_name-equal}
 use Rattle.value_core.specs.declared.ticket.Ticket.{Ticket}
-use Rattle.value_core.specs.Named.{Name, named, same_name}
+use Rattle.value_core.specs.Named.{Name, same_name}
 
 but-gone-was : (test : Name → Bool) (found : Option Name) (q : Name) → but_gone test found ≡ Some q → found ≡ Some q
 but-gone-was test None q e = cc

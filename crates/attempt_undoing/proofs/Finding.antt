@@ -1,12 +1,12 @@
 -- How what hangs on an attempt is found.
-use Rattle.std.proofs.Common.{◌≡◌, ◌∙◌, ◌⊎◌, ◌<◌, ◌≤◌, ℕ, suc, Bool, true, false, cond, inl, inr, length, length-append, append_assoc, append-nil, List, [], ◌∷◌, ◌++◌, map, refl, sym, ap, subst, arith}
+use Rattle.std.proofs.Common.{◌≡◌, ◌∙◌, ◌⊎◌, ◌<◌, ◌≤◌, ℕ, suc, Bool, true, false, cond, inl, inr, length, length-append, append_assoc, append-nil, List, [], ◌∷◌, ◌++◌, map, reverse, refl, sym, ap, subst, arith}
 use Rattle.std.proofs.lemmas.Bool.{cases_lt}
 use Rattle.std.proofs.lemmas.Option.{slice_get_within}
 use Rattle.std.specs.List.{slice_get}
 use Rattle.std.specs.Prelude.{None, Option, Some, fold}
 use Rattle.actor_mailbox.specs.declared.message.Message.{Message}
 use Rattle.actor_mailbox.specs.Messages.{passes}
-use Rattle.attempt_undoing.proofs.Lists.{among-at, place-of, place-stays, sent-append, sent-each, sent-last, sent-more, or-right, with-behind, with-it, with-more, with-which}
+use Rattle.attempt_undoing.proofs.Lists.{among-at, place-of, place-stays, receivers-turned, sent-append, sent-each, sent-last, sent-more, or-right, with-behind, with-it, with-more, with-which}
 use Rattle.attempt_undoing.specs.declared.hanging.Hanging.{Hanging}
 use Rattle.attempt_undoing.specs.declared.hanging.Sent.{Sent}
 use Rattle.attempt_undoing.specs.Hanging.{depends_in, effect_receivers, is_sent, next_turn, sent_on, turn_on, with_found, with_turn, HeldAdded, HeldFound, IsAdded, IsAll, IsFound, IsTurnOn, TriedAdded, TriedFound}
@@ -19,7 +19,6 @@ use Rattle.shared_world.specs.Seen.{done_by_root, done_in}
 use Rattle.shared_world.specs.Shared.{Shared, is_going}
 use Rattle.shared_world.specs.Stands.{Stands}
 use Rattle.task_fork_join.specs.Attempt.{Attempt}
-use Rattle.task_fork_join.specs.declared.task.Task.{Task}
 use Rattle.tentative_turn.specs.Sending.{request_receivers}
 use Rattle.unit_table.specs.Board.{actor_at}
 use Rattle.value_core.proofs.NamedLaws.{same_name-equal}
@@ -155,13 +154,14 @@ module _ (s : Shared) (st : Stands s) (going : is_going s.end ≡ true) (root : 
       )
       by (Some t) e a =
           let of = root-in s v t (st.attempts going v t e) in
-          let is = a of.0 of.1 in (
-            record { more = more-added s t.root (effect_receivers of.0.log.log.effects) old new is; found = added-found s root t.root (effect_receivers of.0.log.log.effects) old new (hangs t e) is },
+          let is = a of.0 of.1 in
+          let all = effect_receivers (reverse of.0.log.log.effects) in (
+            record { more = more-added s t.root all old new is; found = added-found s root t.root all old new (hangs t e) is },
             λ tree there to heard.
                 let both : Some t ≡ Some tree = sym e ∙ there in
                 let same : t ≡ tree = cc in
                 subst (λ (k : Attempt). is_sent new.sends.items to k.root ≡ true) same
-                (added-sent s t.root (effect_receivers of.0.log.log.effects) old new is to (subst (λ es. is_among to (effect_receivers es) ≡ true) (ap done_in of.1) (subst (λ (k : Attempt). is_among to (effect_receivers (done_by_root k)) ≡ true) (sym same) heard))),
+                (added-sent s t.root all old new is to (sym (receivers-turned to of.0.log.log.effects) ∙ subst (λ es. is_among to (effect_receivers es) ≡ true) (ap done_in of.1) (subst (λ (k : Attempt). is_among to (effect_receivers (done_by_root k)) ≡ true) (sym same) heard))),
           )
 
   -- a turn that hangs on it

@@ -1,10 +1,13 @@
 -- Names among names, and what is sent among what was.
-use Rattle.std.proofs.Common.{◌≡◌, ◌∙◌, ◌⊎◌, ◌<◌, ℕ, zero, suc, Bool, true, false, cond, inl, inr, length, List, [], ◌∷◌, ◌++◌, map, refl, sym, ap, subst, arith}
+use Rattle.std.proofs.Common.{◌≡◌, ◌∙◌, ◌⊎◌, ◌<◌, ℕ, zero, suc, Bool, true, false, inl, inr, length, List, [], ◌∷◌, ◌++◌, map, reverse, refl, sym, ap, subst, arith}
+use Rattle.std.proofs.lemmas.Grind.{flat_map-append}
+use Rattle.std.proofs.lemmas.List.{reverse-append}
 use Rattle.std.proofs.lemmas.List.Folds.{list_any-append}
-use Rattle.std.specs.List.{list_any, slice_get}
-use Rattle.std.specs.Prelude.{None, Option, Some, ◌&&◌, ◌||◌, fold, if◌then◌else◌}
+use Rattle.std.specs.List.{slice_get}
+use Rattle.std.specs.Prelude.{Some, ◌&&◌, ◌||◌, if◌then◌else◌}
 use Rattle.attempt_undoing.specs.declared.hanging.Sent.{Sent}
-use Rattle.attempt_undoing.specs.Hanging.{is_sent, sent_on}
+use Rattle.attempt_undoing.specs.Hanging.{effect_receivers, is_sent, sent_on}
+use Rattle.serial_model.specs.declared.effect.Effect.{Effect}
 use Rattle.value_core.proofs.NamedLaws.{same_name-equal, same_name-itself}
 use Rattle.value_core.specs.Named.{Name, is_among, same_name, with_name}
 
@@ -94,6 +97,11 @@ place-stays (n ∷ ns) more zero less = refl
 place-stays (n ∷ ns) more (suc k) less = place-stays ns more k (omega arith)
 
 -- ---- what is sent
+-- its receivers are the same from the last effect to the first
+pub receivers-turned : (to : Name) (effects : List Effect) → is_among to (effect_receivers effects) ≡ is_among to (effect_receivers (reverse effects))
+receivers-turned to [] = refl
+receivers-turned to (e ∷ es) = grind (arith, receivers-turned to es, reverse-append (e ∷ []) es, flat_map-append, among-append)
+
 pub sent-append : (xs ys : List Sent) (to on : Name) → is_sent (xs ++ ys) to on ≡ (is_sent xs to on || is_sent ys to on)
 sent-append xs ys to on = list_any-append (λ s. same_name to s.to && same_name s.on on) xs ys
 

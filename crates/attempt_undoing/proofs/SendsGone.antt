@@ -1,9 +1,9 @@
 -- What was sent goes, one after another.
-use Rattle.std.proofs.Common.{◌≡◌, ◌∙◌, ◌⊎◌, Bool, true, false, cond, inl, inr, List, [], ◌∷◌, refl, sym, ap, ap₂, subst}
+use Rattle.std.proofs.Common.{◌≡◌, ◌∙◌, ◌⊎◌, Bool, true, false, cond, inl, inr, List, [], ◌∷◌, refl, sym, ap, ap₂}
 use Rattle.std.specs.Option.{option_and_then, option_map}
 use Rattle.std.specs.Prelude.{MatchOption, None, Option, Some, ◌&&◌, ◌||◌, is_some, not}
 use Rattle.actor_mailbox.specs.declared.message.Message.{Message}
-use Rattle.actor_mailbox.specs.Messages.{depends_on, passes, without}
+use Rattle.actor_mailbox.specs.Messages.{passes, without}
 use Rattle.actor_mails.specs.Mails.{IsMailed, Mail, mail_at}
 use Rattle.attempt_undoing.specs.declared.hanging.Sent.{Sent}
 use Rattle.attempt_undoing.specs.Hanging.{depends_in, is_sent}
@@ -11,19 +11,17 @@ use Rattle.attempt_undoing.specs.Sends.{ActorsMarked, IsEnded, IsNewMark, IsRema
 use Rattle.serial_model.specs.declared.actor_state.ActorState.{ActorState}
 use Rattle.shared_world.proofs.ActorPieces.{not-same}
 use Rattle.shared_world.specs.rows.Actors.{actor_mark, has_turn}
-use Rattle.shared_world.specs.rows.Undoing.{actor_now, message_gone, message_left}
+use Rattle.shared_world.specs.rows.Undoing.{actor_now, message_left}
 use Rattle.shared_world.specs.Shared.{Shared}
-use Rattle.unit_table.specs.Board.{Board, IsMarked, IsUnlent, LentAreReady, but_for, lent_to, mark_at, marks_ready, piece_at}
+use Rattle.unit_table.specs.Board.{Board, IsMarked, LentAreReady, but_for, lent_to, mark_at, marks_ready, piece_at}
 use Rattle.unit_table.specs.declared.mark.Mark.{Mark}
-use Rattle.unit_table.specs.declared.mark.Mark.TheVariants as mark
-use Rattle.unit_table.specs.declared.mark.Work.TheVariants as work
 use Rattle.unit_table.specs.declared.piece.Actor.{Actor}
 use Rattle.unit_table.specs.declared.piece.Piece.{Piece}
 use Rattle.unit_table.specs.declared.piece.Piece.TheVariants as piece
 use Rattle.unit_table.specs.Piece.{mark_in, marked, says_dropped, says_finished, says_ready, woken}
 use Rattle.value_core.proofs.NamedLaws.{same_name-equal, same_name-itself}
 use Rattle.value_core.specs.declared.ticket.Ticket.{Ticket}
-use Rattle.value_core.specs.Named.{Name, Named, named, same_name}
+use Rattle.value_core.specs.Named.{Name, named, same_name}
 
 -- ---- messages that depend on one of two tests' names
 or-none : (c : Bool) → (c || false) ≡ c

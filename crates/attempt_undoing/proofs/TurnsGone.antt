@@ -1,5 +1,5 @@
 -- Turns that go, one after another.
-use Rattle.std.proofs.Common.{◌≡◌, ◌∙◌, Bool, true, false, cond, List, [], ◌∷◌, refl, sym, ap, ap₂, subst}
+use Rattle.std.proofs.Common.{◌≡◌, ◌∙◌, Bool, true, false, cond, List, [], ◌∷◌, refl, sym, ap, ap₂}
 use Rattle.std.specs.Option.{option_and_then, option_map}
 use Rattle.std.specs.Prelude.{None, Option, Some, ◌&&◌, ◌||◌, is_some, not}
 use Rattle.attempt_undoing.specs.Dropping.{GoneEnds, IsBut, IsTriedGone, IsUnitGone, TurnsGone, has_task, is_task_in, left_of, task_gone_where, unit_gone}
@@ -19,7 +19,6 @@ use Rattle.unit_table.specs.declared.unit.Unit.{Unit}
 use Rattle.unit_table.specs.Piece.{marked}
 use Rattle.value_core.proofs.NamedLaws.{same_name-equal}
 use Rattle.value_core.proofs.NamedViews.{named-each_as}
-use Rattle.value_core.specs.declared.ticket.Ticket.{Ticket}
 use Rattle.value_core.specs.Named.{Name, Named, each_as, is_among, named, same_name}
 
 -- ---- claims on what is gone, twice

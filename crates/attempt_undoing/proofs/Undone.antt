@@ -1,11 +1,11 @@
 -- What hangs on an attempt is gone, and nothing else.
-use Rattle.std.proofs.Common.{◌≡◌, ◌∙◌, ◌⊎◌, Bool, true, false, cond, inl, inr, List, [], ◌∷◌, ◌++◌, refl, sym, ap, ap₂, subst}
+use Rattle.std.proofs.Common.{◌≡◌, ◌∙◌, ◌⊎◌, Bool, true, false, cond, inl, inr, List, [], ◌∷◌, refl, sym, ap, ap₂, subst}
 use Rattle.std.specs.Option.{option_and_then, option_map, IsSome}
 use Rattle.std.specs.Prelude.{None, Option, Some, ◌||◌, is_some, not}
 use Rattle.actor_mailbox.specs.declared.message.Message.{Message}
-use Rattle.actor_mailbox.specs.Messages.{depends_on, passes, without}
+use Rattle.actor_mailbox.specs.Messages.{passes, without}
 use Rattle.actor_mails.specs.Mails.{mail_at}
-use Rattle.attempt_undoing.proofs.AllGone.{IsRootOfOne, ahead-unit, are-gone, no-root, root-in, root-of-one, sent-found, took-by, turn-unit}
+use Rattle.attempt_undoing.proofs.AllGone.{ahead-unit, are-gone, no-root, root-in, root-of-one, sent-found, took-by, turn-unit}
 use Rattle.attempt_undoing.proofs.Lists.{or-left, or-one, or-right}
 use Rattle.attempt_undoing.specs.declared.hanging.Hanging.{Hanging}
 use Rattle.attempt_undoing.specs.declared.hanging.Sent.{Sent}
@@ -14,10 +14,9 @@ use Rattle.attempt_undoing.specs.Hanging.{goes_with, is_root_in, is_sent, Hangs,
 use Rattle.attempt_undoing.specs.Sends.{ActorsMarked, SendsGone, marked_now}
 use Rattle.attempt_undoing.specs.Undoing.{AreHanging, HangingGone, HasUndone, IsReadied}
 use Rattle.attempts_gone.proofs.Dropped.{trying-unfinished}
-use Rattle.serial_model.specs.State.{UnitState}
 use Rattle.shared_world.proofs.Gone.{SeenAs, seen-as}
 use Rattle.shared_world.proofs.Hangs.{IsSentBy, no-unit-at, same-unit, sent-by}
-use Rattle.shared_world.proofs.Live.{state-there, unit-piece}
+use Rattle.shared_world.proofs.Live.{unit-piece}
 use Rattle.shared_world.proofs.Undoes.{never-true, true-not-false}
 use Rattle.shared_world.specs.Ahead.{Ahead}
 use Rattle.shared_world.specs.Dependence as kept
@@ -31,7 +30,7 @@ use Rattle.shared_world.specs.Shared.{Shared, is_going, tree_with, unit_state}
 use Rattle.shared_world.specs.Stands.{Stands}
 use Rattle.task_fork_join.specs.Attempt.{Attempt}
 use Rattle.task_fork_join.specs.declared.task.Task.{Task}
-use Rattle.unit_table.specs.Board.{Board, mark_at, piece_at, unit_at}
+use Rattle.unit_table.specs.Board.{piece_at, unit_at}
 use Rattle.unit_table.specs.declared.mark.Mark.{Mark}
 use Rattle.unit_table.specs.declared.mark.Mark.TheVariants as mark
 use Rattle.unit_table.specs.declared.mark.Work.TheVariants as work
@@ -46,7 +45,7 @@ use Rattle.world_model.proofs.lists.Lists.{Each, each-right}
 use Rattle.world_model.proofs.records.Ranks.{unit-stays}
 use Rattle.world_model.specs.Dependence as on_seen
 use Rattle.world_model.specs.Dependence.{DependsOn}
-use Rattle.world_model.specs.World.{LiveUnit, World, line}
+use Rattle.world_model.specs.World.{LiveUnit, World}
 
 same-tests : (a b : Bool) → (a ≡ true → b ≡ true) → (b ≡ true → a ≡ true) → a ≡ b
 same-tests true b to back = sym (to refl)

@@ -1,5 +1,5 @@
 -- Turns that are gone, with their attempts.
-use Rattle.std.specs.Prelude.{◌≡◌, ◌&&◌, Bool, List, Option, None, Some, cond, false, is_some}
+use Rattle.std.specs.Prelude.{◌≡◌, Bool, List, Option, None, Some, cond, false, is_some}
 use Rattle.std.specs.List.{list_any}
 use Rattle.shared_world.specs.Gave.{is_gone}
 use Rattle.shared_world.specs.rows.Attempts.{IsWithout}
@@ -10,7 +10,7 @@ use Rattle.unit_table.specs.Board.{Board, lent_to, piece_at}
 use Rattle.unit_table.specs.declared.piece.Piece.{Piece}
 use Rattle.unit_table.specs.declared.piece.Piece.TheVariants as piece
 use Rattle.value_core.specs.declared.ticket.Ticket.{Ticket}
-use Rattle.value_core.specs.Named.{Name, Named, is_among, named, same_name}
+use Rattle.value_core.specs.Named.{Name, Named, is_among, named}
 
 -- the claims on what is gone end, and no other
 abbrev pub GoneEnds : Board → Board → Type 0

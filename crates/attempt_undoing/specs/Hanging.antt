@@ -1,5 +1,5 @@
 -- What hangs on an attempt, as it is found.
-use Rattle.std.specs.Prelude.{◌≡◌, ◌&&◌, ◌||◌, ◌++◌, ◌∷◌, [], Bool, List, Option, None, Some, cond, false, flat_map, fold, map, true}
+use Rattle.std.specs.Prelude.{◌≡◌, ◌&&◌, ◌||◌, ◌++◌, ◌∷◌, [], Bool, List, Option, None, Some, cond, false, flat_map, fold, map, reverse, true}
 use Rattle.std.specs.List.{list_any}
 use Rattle.actor_mailbox.specs.declared.message.Message.{Message}
 use Rattle.actor_mailbox.specs.Messages.{depends_on}
@@ -18,6 +18,7 @@ use Rattle.task_fork_join.specs.declared.task.Task.{Task}
 use Rattle.tentative_turn.specs.Sending.{request_receivers}
 use Rattle.unit_table.specs.Board.{actor_at}
 use Rattle.value_core.specs.Named.{Name, is_among, made_by, named, same_name, with_name}
+use Rattle.value_core.specs.NameSet.{HasNames}
 
 -- ---- what was sent
 -- the receiver of an effect, where it sends something
@@ -63,15 +64,19 @@ with_found turns (Some turn) = with_name turns turn
 abbrev pub with_turn : Shared → Name → List Name → Name → List Name
 with_turn s on turns to = with_found turns (turn_on s on to)
 
+-- the names of the turns are seen
+abbrev pub AreSeen : Hanging → Type 0
+AreSeen h = HasNames h.seen h.turns.items
+
 -- what was sent under that name to each of these is added, with the turns that took some of it
 pub record IsAdded (s : Shared) (on : Name) (receivers : List Name) (old new : Hanging) : Type 0 where
   pub turns : new.turns.items ≡ fold (with_turn s on) old.turns.items receivers
   pub sends : new.sends.items ≡ old.sends.items ++ map (sent_on on) receivers
 
--- so it is for the attempt, where there is one
+-- so it is for the attempt, where there is one, from its last effect to its first
 abbrev pub TriedAdded : Shared → Option Attempt → Hanging → Hanging → Type 0
 TriedAdded s None old new = new ≡ old
-TriedAdded s (Some tree) old new = (t : Task) → named tree.root tree.tasks ≡ Some t → IsAdded s tree.root (effect_receivers t.log.log.effects) old new
+TriedAdded s (Some tree) old new = (t : Task) → named tree.root tree.tasks ≡ Some t → IsAdded s tree.root (effect_receivers (reverse t.log.log.effects)) old new
 
 -- and for the turn of that name, where it runs ahead
 abbrev pub HeldAdded : Shared → Name → Option Ahead → Hanging → Hanging → Type 0

@@ -1,8 +1,8 @@
 -- What was sent is gone, from the mail and from what is taken.
-use Rattle.std.specs.Prelude.{◌≡◌, ◌⊎◌, ◌&&◌, ◌||◌, [], Bool, List, Option, None, Some, cond, is_some}
+use Rattle.std.specs.Prelude.{◌≡◌, ◌⊎◌, ◌&&◌, [], Bool, List, Option, None, Some, cond}
 use Rattle.actor_mailbox.specs.declared.message.Message.{Message}
 use Rattle.actor_mailbox.specs.Messages.{without}
-use Rattle.actor_mails.specs.Mails.{Mail, mail_at}
+use Rattle.actor_mails.specs.Mails.{mail_at}
 use Rattle.attempt_undoing.specs.declared.hanging.Sent.{Sent}
 use Rattle.attempt_undoing.specs.Hanging.{depends_in, is_sent}
 use Rattle.shared_world.specs.rows.Actors.{actor_mark, has_turn}

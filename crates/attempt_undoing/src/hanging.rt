@@ -1,20 +1,21 @@
 // What hangs on an attempt, which is only looked at.
-ghost use Rattle.std.specs.Prelude.{◌≡◌, ◌++◌, ◌∷◌, [], IfOk, None, OnOk, Some, fold, map};
-ghost use Rattle.attempt_undoing.specs.Hanging.{depends_in, effect_receiver, effect_receivers, sent_on, turn_on, with_found, with_turn, Hangs, HeldAdded, IsAdded, TriedAdded};
+ghost use Rattle.std.specs.Prelude.{◌≡◌, ◌++◌, ◌∷◌, [], IfOk, None, OnOk, fold, map, reverse};
+ghost use Rattle.attempt_undoing.specs.Hanging.{depends_in, effect_receivers, sent_on, turn_on, with_found, with_turn, AreSeen, Hangs, HeldAdded, IsAdded, TriedAdded};
 ghost use Rattle.shared_world.specs.Stands.{Stands};
 ghost use Rattle.std.specs.Option.{option_copied};
-ghost use Rattle.task_fork_join.specs.declared.task.Task.{Task as Tasked};
 ghost use Rattle.unit_table.specs.Board.{actor_at};
-ghost use Rattle.value_core.specs.Named.{is_among, named, same_name, with_name};
+ghost use Rattle.value_core.specs.Named.{named, same_name, with_name};
+ghost use Rattle.value_core.specs.NameSet.{HasNames};
 ghost use Rattle.value_core.specs.Placed.{filled};
 ghost use Rattle.world_steps.specs.Kept.{shared_of};
 
 use actor_mailbox::Message;
 use serial_model::{Effect, What};
 use std::alloc::{AllocError, Global};
-use task_fork_join::Tree;
-use task_log::list_effects;
+use std::collections::BTreeSet;
+use task_log::SharedList;
 use value_core::name_map::find;
+use value_core::name_set::add;
 use value_core::{Name, Places};
 use world_steps::Kept;
 
@@ -30,6 +31,8 @@ pub(crate) struct Sent {
 pub(crate) struct Hanging {
     pub(crate) turns: Vec<Name>,
     pub(crate) sends: Vec<Sent>,
+    // The names of the turns.
+    seen: BTreeSet<Name>,
 }
 
 /// What hangs on the attempt of the unit. It changes nothing, and fails for want of memory alone: no run has more such turns than run
@@ -42,6 +45,7 @@ pub(crate) fn hanging_on(kept: &Kept, alloc: Global, owner: &Name) -> Result<Han
     let mut hanging = Hanging {
         turns: Vec::new(alloc),
         sends: Vec::new(alloc),
+        seen: BTreeSet::new(alloc),
     };
     add_tried(kept, alloc, owner, &mut hanging)?;
     let mut next = 0;
@@ -64,11 +68,41 @@ fn add_tried(
     name: &Name,
     hanging: &mut Hanging,
 ) -> Result<(), AllocError>
-    ensures { OnOk result (TriedAdded (shared_of kept.now) (named name.now kept.now.attempts.entries) hanging.old hanging.new) }
+    requires seen { AreSeen hanging.old }
+    ensures added { OnOk result (TriedAdded (shared_of kept.now) (named name.now kept.now.attempts.entries) hanging.old hanging.new) }
+    ensures seen { OnOk result (AreSeen hanging.new) }
 {
     if let Some(tree) = find(&kept.attempts, name) {
-        let receivers = receivers_of(alloc, tree)?;
-        add_sends(kept, alloc, &receivers, tree.root_name(), hanging)?;
+        add_done(
+            kept,
+            alloc,
+            tree.root().effects(),
+            tree.root_name(),
+            hanging,
+        )?;
+    }
+    Ok(())
+}
+
+/// Adds what the effects send under that name, the last one first, and the turns that took some of it.
+fn add_done(
+    kept: &Kept,
+    alloc: Global,
+    effects: &SharedList<Effect>,
+    on: &Name,
+    hanging: &mut Hanging,
+) -> Result<(), AllocError>
+    requires seen { AreSeen hanging.old }
+    ensures added { OnOk result (IsAdded (shared_of kept.now) on.now (effect_receivers (reverse effects.now)) hanging.old hanging.new) }
+    ensures seen { OnOk result (AreSeen hanging.new) }
+{
+    let mut last = effects.last();
+    while let Some(link) = last {
+        let (effect, below) = link.parts();
+        if let What::Send(to, _) = &effect.what {
+            add_sent(kept, alloc, to, on, hanging)?;
+        }
+        last = below;
     }
     Ok(())
 }
@@ -80,7 +114,9 @@ fn add_held(
     name: &Name,
     hanging: &mut Hanging,
 ) -> Result<(), AllocError>
-    ensures { OnOk result (HeldAdded (shared_of kept.now) name.now (named name.now (shared_of kept.now).aheads) hanging.old hanging.new) }
+    requires seen { AreSeen hanging.old }
+    ensures added { OnOk result (HeldAdded (shared_of kept.now) name.now (named name.now (shared_of kept.now).aheads) hanging.old hanging.new) }
+    ensures seen { OnOk result (AreSeen hanging.new) }
 {
     if let Some(turn) = find(&kept.aheads, name) {
         let receivers = turn.receivers(alloc)?;
@@ -97,7 +133,9 @@ fn add_sends(
     on: &Name,
     hanging: &mut Hanging,
 ) -> Result<(), AllocError>
-    ensures { OnOk result (IsAdded (shared_of kept.now) on.now receivers.now hanging.old hanging.new) }
+    requires seen { AreSeen hanging.old }
+    ensures added { OnOk result (IsAdded (shared_of kept.now) on.now receivers.now hanging.old hanging.new) }
+    ensures seen { OnOk result (AreSeen hanging.new) }
 {
     for to in receivers {
         add_sent(kept, alloc, to, on, hanging)?;
@@ -113,11 +151,13 @@ fn add_sent(
     on: &Name,
     hanging: &mut Hanging,
 ) -> Result<(), AllocError>
+    requires seen { AreSeen hanging.old }
     ensures turns { OnOk result (hanging.new.turns.items ≡ with_turn (shared_of kept.now) on.now hanging.old.turns.items to.now) }
     ensures sends { OnOk result (hanging.new.sends.items ≡ hanging.old.sends.items ++ sent_on on.now to.now ∷ []) }
+    ensures seen { OnOk result (AreSeen hanging.new) }
 {
     if let Some(turn) = turn_of(kept, alloc, to, on)? {
-        push_once(&mut hanging.turns, turn)?;
+        push_once(&mut hanging.turns, &mut hanging.seen, alloc, turn)?;
     }
     let sent = Sent {
         to: to.copy(alloc)?,
@@ -153,48 +193,20 @@ pub(crate) fn has_taken(taken: &Places<Message>, to: &Name, on: &Name) -> bool
     }
 }
 
-/// Puts the name behind the others, where it is none of them.
-fn push_once(names: &mut Vec<Name>, name: Name) -> Result<(), AllocError>
-    ensures { OnOk result (names.new.items ≡ with_name names.old.items name) }
+/// Puts the name behind the others, where it is none of them, which are seen.
+fn push_once(
+    names: &mut Vec<Name>,
+    seen: &mut BTreeSet<Name>,
+    alloc: Global,
+    name: Name,
+) -> Result<(), AllocError>
+    requires seen { HasNames seen.old names.old.items }
+    ensures names { OnOk result (names.new.items ≡ with_name names.old.items name) }
+    ensures seen { OnOk result (HasNames seen.new names.new.items) }
 {
-    if !is_one_of(&name, names) {
+    if !seen.contains(&name) {
+        add(seen, name.copy(alloc)?)?;
         names.push(name)?;
-    }
-    Ok(())
-}
-
-/// Whether the name is one of these.
-fn is_one_of(name: &Name, names: &[Name]) -> bool
-    ensures { result ≡ is_among name.now names.now }
-{
-    names.iter().any(|other| *name == *other)
-}
-
-/// The receivers of what the root of the attempt has sent, in their order.
-fn receivers_of(alloc: Global, tree: &Tree) -> Result<Vec<Name>, AllocError>
-    ensures { IfOk result (λ names. (t : Tasked) → named tree.now.root tree.now.tasks ≡ Some t → names.items ≡ effect_receivers t.log.log.effects) }
-{
-    let effects = list_effects(alloc, tree.root().effects())?;
-    list_receivers(alloc, &effects)
-}
-
-/// The receivers of what the effects send, in their order.
-fn list_receivers(alloc: Global, effects: &[Effect]) -> Result<Vec<Name>, AllocError>
-    ensures { IfOk result (λ names. names.items ≡ effect_receivers effects.now) }
-{
-    let mut names = Vec::new(alloc);
-    for effect in effects {
-        push_receiver(alloc, &effect.what, &mut names)?;
-    }
-    Ok(names)
-}
-
-/// Puts the receiver of what the effect sends behind the others, where it sends something.
-fn push_receiver(alloc: Global, what: &What, names: &mut Vec<Name>) -> Result<(), AllocError>
-    ensures { OnOk result (names.new.items ≡ names.old.items ++ effect_receiver what.now) }
-{
-    if let What::Send(to, _) = what {
-        names.push(to.copy(alloc)?)?;
     }
     Ok(())
 }

@@ -1,4 +1,5 @@
 -- The world may be moved into a thread.
+use denote.Struct.Field.{usize-field}
 use denote.Param.Send.{IsSend, IsSync, sendable}
 use denote.Param.SendFields.{as_row_sync, declared_send, declared_sync, variants_sync}
 use Rattle.std.proofs.Crossing.{crosses}
@@ -118,8 +119,17 @@ names_send = search (node_send, node_sync, side_send, fields) depth 60 fits 2000
 value_map_sync : IsSync (shared_map.the_row value.the_row)
 value_map_sync = search (value_send, value_sync, node_send, node_sync, side_sync, variants_sync, declared_sync, as_row_sync, crosses, sendable) depth 60 fits 20000
 
+number_send : IsSend (usize-field).row
+number_send = search (crosses, sendable) depth 30
+
+number_sync : IsSync (usize-field).row
+number_sync = search (crosses, sendable) depth 30
+
+counts_send : IsSend (shared_map.the_row (usize-field).row)
+counts_send = search (number_send, number_sync, node_send, node_sync, side_send, fields) depth 60 fits 20000
+
 own_log_send : IsSend own_log.the_row
-own_log_send = search (name_send, value_map_send, name_list_send, names_send, effect_list_send, fields) depth 60 fits 20000
+own_log_send = search (name_send, value_map_send, counts_send, name_list_send, names_send, effect_list_send, fields) depth 60 fits 20000
 
 reads_send : IsSend reads.the_row
 reads_send = search (name_send, fields) depth 60 fits 20000

@@ -1,5 +1,5 @@
 -- Worlds that begin, and that stand.
-use Rattle.std.proofs.Common.{◌≡◌, refl, sym, subst}
+use Rattle.std.proofs.Common.{◌≡◌, ap, refl, sym, subst}
 use Rattle.std.specs.Prelude.{Err, IfOk, Ok, OnErr, Result}
 use Rattle.std.specs.declared.alloc.AllocError.{AllocError}
 use Rattle.core_syntax.specs.Table.{Table}
@@ -12,12 +12,14 @@ use Rattle.interleave_core.specs.Standing.{IsStanding}
 use Rattle.serial_model.specs.declared.end.End.{End}
 use Rattle.serial_model.specs.declared.end.End.TheVariants.{Done}
 use Rattle.serial_model.specs.State.{Setup}
+use Rattle.shared_world.proofs.Few.{few-same, few-still, gave-keeps-few, opening-keeps-few}
 use Rattle.shared_world.proofs.Kept.{gave-keeps}
 use Rattle.shared_world.proofs.Later.{gave-later}
 use Rattle.shared_world.proofs.MarkLaws.{gave-marks, opening-marks}
 use Rattle.shared_world.proofs.Marks.{pieces-marks}
 use Rattle.shared_world.proofs.Opens.{opening-stands}
 use Rattle.shared_world.specs.declared.given.Given.{Given}
+use Rattle.shared_world.specs.Few.{KeepsFew}
 use Rattle.shared_world.specs.Later.{IsLater}
 use Rattle.shared_world.specs.Marks.{HasMarks}
 use Rattle.shared_world.specs.Opening.{IsOpening}
@@ -35,6 +37,7 @@ pub opening-standing : (setup : Setup) (s : Shared) → IsWellFormed setup.progr
 opening-standing setup s formed is = record {
   stands = opening-stands setup s formed is;
   marks = opening-marks setup s is;
+  few = opening-keeps-few setup s is;
   done_is = refl;
 }
 
@@ -43,6 +46,7 @@ pub still-standing : (old new : Shared) (closing : End) → IsStanding old closi
 still-standing old new closing is same rest = record {
   stands = pieces-stand old new is.stands same rest;
   marks = pieces-marks old new same rest is.marks;
+  few = few-same old new (ap (λ (s : Shared). s.versions) rest) (ap (λ (s : Shared). s.attempts) rest) is.few;
   done_is = is.done_is;
 }
 
@@ -59,11 +63,13 @@ pub given-standing : (old new : Shared) (r : Returned) (closing : End) (result :
 given-standing old new r closing (Ok found) is given_so = record {
   stands = gave-keeps old new r found is.stands given_so.gave;
   marks = gave-marks old new r found is.stands is.marks given_so.gave;
+  few = gave-keeps-few old new r found is.few given_so.gave;
   done_is = is.done_is;
 }
 given-standing old new r closing (Err e) is back = record {
   stands = back.stands;
   marks = back.marks is.marks;
+  few = few-still old new (ap (λ (s : Shared). s.versions) back.rest) back.no_fewer is.few;
   done_is = is.done_is;
 }
 
@@ -72,9 +78,10 @@ pub run-here : (table : Table) (r : Returned) → r.program ≡ table → IsRunO
 run-here table r same is = subst (λ t. IsRunOf (record r { program = t })) same is
 
 -- the run of the same program goes on
-pub later-standing : (old new : Shared) (closing : End) → IsStanding old closing → Stands new → (HasMarks old → HasMarks new) → IsLater old new → IsStanding new closing
-later-standing old new closing is stands marks later = record {
+pub later-standing : (old new : Shared) (closing : End) → IsStanding old closing → Stands new → (HasMarks old → HasMarks new) → (KeepsFew old → KeepsFew new) → IsLater old new → IsStanding new closing
+later-standing old new closing is stands marks few later = record {
   stands = stands;
   marks = marks is.marks;
+  few = few is.few;
   done_is = is.done_is;
 }

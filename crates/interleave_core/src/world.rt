@@ -35,8 +35,9 @@ use world_claim::{Claim, Done};
 use world_steps::Kept;
 
 /// The world that the threads of a run share. Contracts see what it keeps: the history, the versions of refs, the pieces with
-/// their marks and claims, the attempts, the bytes and the end. It always stands for the replay of its history, and the mark of
-/// each piece is right: something can be done with it unless it is finished or waits for what is still to come.
+/// their marks and claims, the attempts, the bytes and the end. It always stands for the replay of its history, the mark of
+/// each piece is right: something can be done with it unless it is finished or waits for what is still to come; and of each ref at
+/// most one version more is kept than there are live snapshots, which are those of the attempts.
 #[derive(Drop)]
 pub struct World {
     kept: Kept,

@@ -1,5 +1,5 @@
 -- Results that are given back.
-use Rattle.std.proofs.Common.{◌≡◌, ◌∙◌, Bool, true, false, inl, inr, refl, sym, ap, subst}
+use Rattle.std.proofs.Common.{◌≡◌, ◌∙◌, Bool, true, false, inl, inr, le_trans, refl, sym, ap, subst}
 use Rattle.std.specs.Option.{option_and_then, option_map}
 use Rattle.std.specs.Prelude.{◌⊎◌, ◌&&◌, None, Option, Some, if◌then◌else◌}
 use Rattle.eval_step.specs.Evaluation.{Evaluation}
@@ -12,6 +12,7 @@ use Rattle.lent_pieces.specs.Leading.{LiveGave}
 use Rattle.lent_pieces.specs.Leading as live_gave
 use Rattle.attempt_steps.specs.Tasks.{IsReadyTask, IsWanting}
 use Rattle.serial_model.specs.declared.halt.Halt.{Halt}
+use Rattle.shared_world.proofs.Few.{none-gone}
 use Rattle.shared_world.proofs.Kept.{unclaimed-keeps}
 use Rattle.shared_world.proofs.Live.{going, unfinished}
 use Rattle.shared_world.proofs.Marks.{pieces-marks}
@@ -125,6 +126,7 @@ module _ (old mid new : Shared) (r : Returned) (name : Name) (live : IsLive old 
     ready_again = λ q live_q. subst (λ n. ready new n ≡ true) (one-name q live_q) again;
     pieces = λ q not_live. left.unclaimed.pieces q ∙ wants.others q (λ same. not_live (subst (IsLive old r) (sym same) live));
     ages = λ u. ap (λ (s : Shared). age_of s u) left.unclaimed.rest ∙ wants.ages u;
+    no_fewer = le_trans wants.no_fewer (none-gone mid new (ap (λ (s : Shared). s.attempts) left.unclaimed.rest));
     rest = left.unclaimed.rest ∙ ap (λ (s : Shared). record s { board = new.board }) wants.rest
         ∙ ap (λ a. record old { attempts = a; board = new.board }) (sym (ap (λ (s : Shared). s.attempts) left.unclaimed.rest));
   }
@@ -142,6 +144,7 @@ back-plain old new r st left = record {
   ready_again = λ q live. left.again q live.claim;
   pieces = λ q not_live. left.unclaimed.pieces q;
   ages = λ u. ap (λ (s : Shared). age_of s u) left.unclaimed.rest;
+  no_fewer = none-gone old new (ap (λ (s : Shared). s.attempts) left.unclaimed.rest);
   rest = left.unclaimed.rest ∙ ap (λ a. record old { attempts = a; board = new.board }) (sym (ap (λ (s : Shared). s.attempts) left.unclaimed.rest));
 }
 

@@ -79,7 +79,7 @@ finishes old u x v (Some a) found new r = ap is_stale r.settles.found_is
 
 unit-row : (old : Shared) (u : Name) (x : Unit) (h : Halt) (found : Given) (new : Shared) → UnitGives old u x h found new → is_stale found ≡ false
 unit-row old u x (halt.Ask (request.Print text) at) found new r = ap is_stale r.found_is
-unit-row old u x (halt.Ask (request.NewRef v) at) found new r = ap is_stale r.found_is
+unit-row old u x (halt.Ask (request.NewRef v) at) found new r = ap is_stale r.settles.found_is
 unit-row old u x (halt.Ask (request.Deref ref) at) found new r = derefs old u x (ref_now old.versions ref) found new r
 unit-row old u x (halt.Ask (request.RefSet ref v) at) found new r = ap is_stale r.found_is
 unit-row old u x (halt.Ask (request.Fork body values) at) found new r = forks old u x body values (old.made == old.setup.limits.units) found new r
@@ -171,7 +171,7 @@ lead-forks old u x h body values rest false found new r = ap is_stale r.2.found_
 
 first : (old : Shared) (u : Name) (x : Unit) (h : Ahead) (r : Request) (rest : List Request) (found : Given) (new : Shared) → FirstSettles old u x h r rest found new → is_stale found ≡ false
 first old u x h (request.Print text) rest found new r = ap is_stale r.found_is
-first old u x h (request.NewRef v) rest found new r = ap is_stale r.found_is
+first old u x h (request.NewRef v) rest found new r = ap is_stale r.settles.found_is
 first old u x h (request.Spawn behaviour state) rest found new r = ap is_stale r.2.found_is
 first old u x h (request.Fork body values) rest found new r = lead-forks old u x h body values rest (old.made == old.setup.limits.units) found new r
 first old u x h (request.Send to args) rest found new r = ap is_stale r.2.found_is

@@ -1,5 +1,5 @@
 -- A result that is given back for which memory was wanting.
-use Rattle.std.specs.Prelude.{◌≡◌, Err, None, Ok, Result, true}
+use Rattle.std.specs.Prelude.{◌≡◌, ◌≤◌, Err, None, Ok, Result, length, true}
 use Rattle.std.specs.declared.alloc.AllocError.{AllocError}
 use Rattle.lent_pieces.specs.Claims.{IsStale}
 use Rattle.shared_world.specs.Counts.{age_of}
@@ -15,7 +15,8 @@ use Rattle.value_core.specs.declared.ticket.Ticket.{Ticket}
 use Rattle.value_core.specs.Named.{Name}
 
 -- The history, the refs, the bytes and the end are as they were, and so is every other piece; the claim is out no more, and every
--- other claim is; the piece is ready again; each attempt began where it did; and the marks are right where they were.
+-- other claim is; the piece is ready again; each attempt began where it did, and there are no fewer; and the marks are right where they
+-- were.
 pub record IsBack (old : Shared) (result : Returned) (new : Shared) : Type 0 where
   pub stands : Stands new
   pub marks : HasMarks old → HasMarks new
@@ -24,6 +25,7 @@ pub record IsBack (old : Shared) (result : Returned) (new : Shared) : Type 0 whe
   pub ready_again : (name : Name) → IsLive old result name → ready new name ≡ true
   pub pieces : (name : Name) → (IsLive old result name → ⊥) → piece_at new.board name ≡ piece_at old.board name
   pub ages : (u : Name) → age_of new u ≡ age_of old u
+  pub no_fewer : length old.attempts ≤ length new.attempts
   pub rest : new ≡ record old { attempts = new.attempts; board = new.board }
 
 -- what a result comes to

@@ -23,7 +23,6 @@ use shared_world::Given;
 use std::alloc::{AllocError, Global};
 use unit_table::Work;
 use value_core::Name;
-use value_core::name_map::find;
 use world_steps::Kept;
 
 /// What the piece comes to that was lent for that work, whose machine, as it was lent, was given back, with the halt to which it was
@@ -45,7 +44,7 @@ pub(crate) fn give_piece(
     requires halts { HasHalted (arc_value kept.old.program) machine halt }
     ensures { GivesLive (shared_of kept.old) name.now work (shared_of kept.new) result }
 {
-    if runs_ahead(kept, name) {
+    if kept.runs_ahead(name) {
         return give_lead(kept, alloc, name, work, machine, halt);
     }
     if begins_ahead(kept, name, &machine) {
@@ -53,13 +52,6 @@ pub(crate) fn give_piece(
         return take_ahead(kept, alloc, name);
     }
     give_to(kept, alloc, name, machine, halt)
-}
-
-/// Whether a turn of that name runs ahead.
-fn runs_ahead(kept: &Kept, name: &Name) -> bool
-    ensures { result ≡ true → IsSome (named name.now (shared_of kept.now).aheads) }
-{
-    find(&kept.aheads, name).is_some()
 }
 
 /// Whether the piece has no machine, and the first message that waits for it is not settled.

@@ -1,5 +1,5 @@
 -- How one thread ends a run.
-use Rattle.std.proofs.Common.{◌≡◌, ◌∙◌, Bool, true, false, cond, [], refl, sym, ap, ap₂, subst}
+use Rattle.std.proofs.Common.{◌≡◌, ◌∙◌, Bool, true, false, cond, suc, length, List, [], refl, sym, ap, ap₂, subst}
 use Rattle.std.specs.declared.cmp.Ordering.{Ordering}
 use Rattle.std.specs.declared.cmp.Ordering.TheVariants.{Equal, Greater, Less}
 use Rattle.std.specs.Option.{option_and_then, option_map}
@@ -10,7 +10,7 @@ use Rattle.run_end.proofs.Finished.{open-not-over, over-set}
 use Rattle.run_end.proofs.Level.{none-comes}
 use Rattle.run_end.proofs.Turns.{turns-given, turns-itself, turns-none, turns-then}
 use Rattle.lent_pieces.proofs.Lending.{pieces-stand}
-use Rattle.run_end.specs.Finishing.{AreEnding, GoesOn, IsEnded, IsFinished, LentAfter, NoneOut, NoneTried}
+use Rattle.run_end.specs.Finishing.{AreEnding, GoesOn, IsEnded, LentAfter, NoneOut, NoneTried}
 use Rattle.world_reset.specs.Plan.{IsNextOr}
 use Rattle.world_reset.specs.Putting.{NoneMoreOut}
 use Rattle.run_end.specs.InTurn.{GoesInTurn, IsInTurn, IsLevel}
@@ -20,9 +20,12 @@ use Rattle.world_steps.specs.Kept.{IsSameBut}
 use Rattle.run_end.specs.Over.{IsOverWith}
 use Rattle.attempt_steps.specs.Tasks.{IsWanting}
 use Rattle.attempts_gone.specs.Dropping.{HasAttempt}
+use Rattle.ref_store.proofs.StoreLaws.{above_pruned}
+use Rattle.ref_store.specs.declared.version.Version.{Version}
 use Rattle.serial_model.specs.declared.end.End.{End}
 use Rattle.serial_model.specs.declared.entry.Entry.{Entry}
 use Rattle.serial_model.specs.Step.{next_of}
+use Rattle.shared_world.proofs.Few.{few-pruned, few-same, few-still, gave-actor-few, gave-task-few, gave-unit-few, resets-keep-few}
 use Rattle.shared_world.proofs.Gone.{seen-as}
 use Rattle.shared_world.proofs.MarkedReset.{resets-mark}
 use Rattle.shared_world.proofs.Resetting.{resets-stand}
@@ -35,9 +38,12 @@ use Rattle.shared_world.proofs.MarkedUnits.{marked-unit}
 use Rattle.shared_world.proofs.Marks.{marked-same, pieces-marks}
 use Rattle.shared_world.proofs.Over.{now}
 use Rattle.shared_world.proofs.Turns.{actor-gave}
+use Rattle.shared_world.proofs.Versions.{now-kept}
 use Rattle.shared_world.specs.declared.given.Given.{Given}
 use Rattle.shared_world.specs.declared.given.Given.TheVariants as given
+use Rattle.shared_world.specs.Few.{KeepsFew}
 use Rattle.shared_world.specs.Marks.{HasMarks}
+use Rattle.shared_world.specs.rows.Attempts.{ArePrunedFor}
 use Rattle.shared_world.specs.rows.Pieces.{ClaimsEnd, but_gone}
 use Rattle.shared_world.specs.rows.Resetting.{Resets}
 use Rattle.shared_world.specs.Seen.{AttemptSeen, live_with}
@@ -59,6 +65,7 @@ use Rattle.value_core.specs.Name.{after_cmp}
 use Rattle.value_core.specs.Named.{Name, Named, named, same_name}
 use Rattle.value_core.specs.NameSet.{holds_at}
 use Rattle.world_model.specs.StandsFor.{AttemptStands}
+use Rattle.world_model.specs.World as world
 
 -- ---- what goes on
 -- where the same runs ahead and is taken
@@ -66,10 +73,10 @@ level-same : (old new : Shared) → new.aheads ≡ old.aheads → new.taken ≡ 
 level-same old new aheads taken level = record { aheads = λ u. ap (named u) aheads ∙ level.aheads u; taken = λ a. ap (named a) taken ∙ level.taken a }
 
 pub goes-itself : (s : Shared) → Stands s → GoesOn s s
-goes-itself s st = record { stands = st; marks = λ marks. marks; turns = turns-itself s; claims = λ none. none; level = λ level. level }
+goes-itself s st = record { stands = st; marks = λ marks. marks; few = λ few. few; turns = turns-itself s; claims = λ none. none; level = λ level. level }
 
 pub goes-then : (first mid last : Shared) → GoesOn first mid → GoesOn mid last → GoesOn first last
-goes-then first mid last a b = record { stands = b.stands; marks = λ marks. b.marks (a.marks marks); turns = turns-then first mid last a.turns b.turns; claims = λ none. b.claims (a.claims none); level = λ level. b.level (a.level level) }
+goes-then first mid last a b = record { stands = b.stands; marks = λ marks. b.marks (a.marks marks); few = λ few. b.few (a.few few); turns = turns-then first mid last a.turns b.turns; claims = λ none. b.claims (a.claims none); level = λ level. b.level (a.level level) }
 
 -- once the run has ended no claim is out
 pub out-none : (s : Shared) (t : Ticket) → (is_going s.end ≡ true → claimed s t ≡ None) → claimed s t ≡ None
@@ -87,6 +94,7 @@ pub same-goes : (old new : Shared) → Stands old → IsSameBut old new → Goes
 same-goes old new st is = record {
   stands = pieces-stand old new st is.pieces is.rest;
   marks = pieces-marks old new is.pieces is.rest;
+  few = few-same old new (ap (λ (s : Shared). s.versions) is.rest) (ap (λ (s : Shared). s.attempts) is.rest);
   turns = turns-none old new (ap (λ (s : Shared). s.setup) is.rest) (ap (λ (s : Shared). s.history) is.rest);
   claims = λ none t. ap₂ (λ (end : Option End) found. if is_going end then found else None) (ap (λ (s : Shared). s.end) is.rest) (is.claims.to t) ∙ none t;
   level = level-same old new (ap (λ (s : Shared). s.aheads) is.rest) (ap (λ (s : Shared). s.taken) is.rest);
@@ -98,6 +106,7 @@ gave-goes old new name found st going unfinished turn (giving.unit g) = record {
   stands = unit-gave old st going name unfinished found new g;
   marks = λ marks on_going. marked-unit old st (marks (ap is_going going)) name g.unit
       (record { going = going; there = state-there old.board name g.unit g.there; unfinished = unfinished g.unit g.there; level = g.level }) g.there found new on_going (next_of old.setup (unit_state g.unit)) refl g.gives;
+  few = gave-unit-few old name found new g;
   turns = turns-given old new st found (gave-unit-appends old name found new g) turn;
   claims = ends-none _ old new g.claims;
   level = λ level. none-comes old level name found new (giving.unit g);
@@ -105,6 +114,7 @@ gave-goes old new name found st going unfinished turn (giving.unit g) = record {
 gave-goes old new name found st going unfinished turn (giving.task g) = record {
   stands = task-gave old st going name found new g;
   marks = λ marks on_going. marked-task old st (marks (ap is_going going)) going name found new on_going g;
+  few = gave-task-few old name found new g;
   turns = turns-given old new st found (gave-task-appends old name found new g) turn;
   claims = ends-none _ old new g.claims;
   level = λ level. none-comes old level name found new (giving.task g);
@@ -112,6 +122,7 @@ gave-goes old new name found st going unfinished turn (giving.task g) = record {
 gave-goes old new name found st going unfinished turn (giving.actor g) = record {
   stands = actor-gave old st going name found new g;
   marks = λ marks on_going. marked-turn old st (marks (ap is_going going)) (ap is_going going) name found new g on_going;
+  few = gave-actor-few old name found new g;
   turns = turns-given old new st found (gave-actor-appends old name found new g) turn;
   claims = ends-none _ old new g.claims;
   level = λ level. none-comes old level name found new (giving.actor g);
@@ -122,6 +133,7 @@ pub wanting-goes : (old new : Shared) (name : Name) → old.end ≡ None → IsW
 wanting-goes old new name going is = record {
   stands = is.stands;
   marks = is.marks;
+  few = few-still old new (ap (λ (s : Shared). s.versions) is.rest) is.no_fewer;
   turns = turns-none old new (ap (λ (s : Shared). s.setup) is.rest) (ap (λ (s : Shared). s.history) is.rest);
   claims = λ none t. out-none new t (λ on_going. ap (λ g. if g then lent_to new.board t else None) on_going ∙ still-none none t);
   level = level-same old new (ap (λ (s : Shared). s.aheads) is.rest) (ap (λ (s : Shared). s.taken) is.rest);
@@ -155,6 +167,7 @@ module _ (old new : Shared) (st : Stands old) where
   reset-goes r out = record {
     stands = resets-stand old new st r;
     marks = λ marks. resets-mark old new st marks r;
+    few = λ few. resets-keep-few old new r;
     turns = turns-none old new (ap (λ (s : Shared). s.setup) r.others) (ap (λ (s : Shared). s.history) r.others);
     claims = λ none t. out-none new t (λ on_going. ap (λ g. if g then lent_to new.board t else None) on_going ∙ out t (sym (ap (λ g. if g then lent_to old.board t else None) (sym (ap (λ (s : Shared). is_going s.end) r.others) ∙ on_going)) ∙ none t));
     level = λ level. record { aheads = r.aheads; taken = r.taken };
@@ -207,40 +220,41 @@ module _ (s : Shared) (st : Stands s) where
         on None e true_so = none e
         on (Some end) e true_so = cc
 
-    pub cleared-stands : Stands (record s { attempts = [] })
-    cleared-stands = record {
-      formed = st.formed;
-      world = st.world;
-      is_world = st.is_world;
-      seen = record {
-        history = st.seen.history;
-        refs = st.seen.refs;
-        units = st.seen.units;
-        actors = st.seen.actors;
-        taken = st.seen.taken;
-        mails = st.seen.mails;
-        attempts = λ going u. subst (λ found. AttemptSeen s.versions found (st.world.attempts u)) (going-none going u) (st.seen.attempts going u);
-        bytes = st.seen.bytes;
-        made = st.seen.made;
-        end = st.seen.end;
-      };
-      machines = st.machines;
-      attempts = λ going u tree there. cc;
-      numbers = st.numbers;
-      aheads = st.aheads;
-    }
+    -- and the versions pruned that were read by them alone
+    module _ (versions : Named (List Version)) (pruned : ArePrunedFor [] s.versions versions) where
+      unseen : (tried : Option world.Attempt) → AttemptSeen s.versions None tried → AttemptSeen versions None tried
+      unseen None is = is
+      unseen (Some tried) is = is
 
-    -- and so are their marks
-    pub cleared-marks : HasMarks s → HasMarks (record s { attempts = [] })
-    cleared-marks marks going = marked-same s (record s { attempts = [] }) (record { setup = refl; attempts = λ v. sym (going-none going v); owners = refl; aheads = refl; taken = refl; pieces = λ q. refl; mails = λ a. refl }) (marks going)
+      pub cleared-stands : Stands (record s { attempts = []; versions = versions })
+      cleared-stands = record {
+        formed = st.formed;
+        world = st.world;
+        is_world = st.is_world;
+        seen = record {
+          history = st.seen.history;
+          refs = λ r. st.seen.refs r ∙ sym (now-kept [] s.versions versions pruned r);
+          units = st.seen.units;
+          actors = st.seen.actors;
+          taken = st.seen.taken;
+          mails = st.seen.mails;
+          attempts = λ going u. unseen (st.world.attempts u) (subst (λ found. AttemptSeen s.versions found (st.world.attempts u)) (going-none going u) (st.seen.attempts going u));
+          bytes = st.seen.bytes;
+          made = st.seen.made;
+          end = st.seen.end;
+        };
+        machines = st.machines;
+        attempts = λ going u tree there. cc;
+        numbers = above_pruned pruned.live s.versions versions pruned.pruned (suc (length s.history)) st.numbers;
+        aheads = st.aheads;
+      }
 
-pub cleared-finished : (s : Shared) (end : End) → IsOverWith s end → NoneOut s → IsLevel s → IsFinished (record s { attempts = [] }) end
-cleared-finished s end over none level = record {
-  over = record { state = over.state; replays = over.replays; over = over.over };
-  attempts = λ u. refl;
-  claims = none;
-  level = record { aheads = level.aheads; taken = level.taken };
-}
+      -- and so are their marks
+      pub cleared-marks : HasMarks s → HasMarks (record s { attempts = []; versions = versions })
+      cleared-marks marks going = marked-same s (record s { attempts = []; versions = versions }) (record { setup = refl; attempts = λ v. sym (going-none going v); owners = refl; aheads = refl; taken = refl; pieces = λ q. refl; mails = λ a. refl }) (marks going)
+
+      pub cleared-few : KeepsFew (record s { attempts = []; versions = versions })
+      cleared-few = few-pruned (record s { attempts = []; versions = versions }) s.versions pruned
 
 -- ---- claims that end
 -- the mark that is there is put anew
@@ -336,6 +350,7 @@ pub ending-goes : (s : Shared) (b : Board) → Stands s → AreEnding s.board b 
 ending-goes s b st are = record {
   stands = pieces-stand s (record s { board = b }) st are.pieces refl;
   marks = pieces-marks s (record s { board = b }) are.pieces refl;
+  few = λ few. few;
   turns = turns-none s (record s { board = b }) refl refl;
   claims = λ none t. on t (is_going s.end) (none t);
   level = λ level. record { aheads = level.aheads; taken = level.taken };
@@ -350,8 +365,8 @@ pub ended-out : (s : Shared) (end : End) → s.end ≡ Some end → NoneOut s
 ended-out s end is t = out-none s t (λ going. let no : true ≡ false = sym going ∙ ap is_going is in cc)
 
 -- attempts that are cleared change no history
-pub cleared-turns : (first mid : Shared) (attempts : Named Attempt) → GoesInTurn first mid → GoesInTurn first (record mid { attempts = attempts })
-cleared-turns first mid attempts a = record { setup = a.setup; more = a.more; history = a.history; in_turn = a.in_turn }
+pub cleared-turns : (first mid : Shared) (attempts : Named Attempt) (versions : Named (List Version)) → GoesInTurn first mid → GoesInTurn first (record mid { attempts = attempts; versions = versions })
+cleared-turns first mid attempts versions a = record { setup = a.setup; more = a.more; history = a.history; in_turn = a.in_turn }
 
 -- where nothing is lent no claim is out
 pub lent-none-out : (s : Shared) → ((t : Ticket) → lent_to s.board t ≡ None) → NoneOut s

@@ -62,7 +62,7 @@ module _ (old : Shared) (level : IsLevel old) where
   -- what a unit comes to
   unit-level : (u : Name) (x : Unit) (h : Halt) (found : Given) (new : Shared) → UnitGives old u x h found new → IsLevel new
   unit-level u x (halt.Ask (request.Print text) at) found new row = settles _ u x _ found new (refl, refl) row
-  unit-level u x (halt.Ask (request.NewRef v) at) found new row = settles _ u x _ found new (refl, refl) row
+  unit-level u x (halt.Ask (request.NewRef v) at) found new row = settles _ u x _ found new (refl, refl) row.settles
   unit-level u x (halt.Ask (request.Deref ref) at) found new row = on (ref_now old.versions ref) row
     where
       on : (v : Option Value) → Derefs old u x v found new → IsLevel new

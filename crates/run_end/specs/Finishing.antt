@@ -3,6 +3,7 @@ use Rattle.std.specs.Prelude.{◌≡◌, None, Option, Some}
 use Rattle.run_end.specs.InTurn.{GoesInTurn, IsLevel}
 use Rattle.run_end.specs.Over.{IsOverWith}
 use Rattle.serial_model.specs.declared.end.End.{End}
+use Rattle.shared_world.specs.Few.{KeepsFew}
 use Rattle.shared_world.specs.Marks.{HasMarks}
 use Rattle.shared_world.specs.Shared.{Shared, claimed}
 use Rattle.shared_world.specs.Stands.{Stands}
@@ -26,11 +27,12 @@ pub record IsFinished (s : Shared) (end : End) : Type 0 where
   pub claims : NoneOut s
   pub level : IsLevel s
 
--- What is kept stands, the marks are right where they were, the history goes on in turn from where it was, and where no claim was out
--- none is, and where nothing ran ahead of the history nothing does.
+-- What is kept stands, the marks are right where they were, few versions are kept of each ref where few were, the history goes on in turn
+-- from where it was, and where no claim was out none is, and where nothing ran ahead of the history nothing does.
 pub record GoesOn (old new : Shared) : Type 0 where
   pub stands : Stands new
   pub marks : HasMarks old → HasMarks new
+  pub few : KeepsFew old → KeepsFew new
   pub turns : GoesInTurn old new
   pub claims : NoneOut old → NoneOut new
   pub level : IsLevel old → IsLevel new

@@ -4,8 +4,10 @@ ghost use Rattle.std.specs.Option.{option_and_then};
 ghost use Rattle.run_end.specs.Finishing.{AreEnding, GoesOn, IsEnded, IsFinished, IsOverOr, NoneOut, NoneTried};
 ghost use Rattle.run_end.specs.InTurn.{GoesInTurn, IsDue, IsLeft, IsWalked, IsWalkedOr, IsLevel, number_at};
 ghost use Rattle.run_end.specs.Over.{IsOverWith};
+ghost use Rattle.shared_world.specs.Few.{KeepsFew};
 ghost use Rattle.shared_world.specs.Later.{IsLater};
 ghost use Rattle.shared_world.specs.Marks.{HasMarks};
+ghost use Rattle.shared_world.specs.rows.Attempts.{ArePrunedFor};
 ghost use Rattle.shared_world.specs.Shared.{work_in as kept_work_in};
 ghost use Rattle.shared_world.specs.Stands.{Stands};
 ghost use Rattle.unit_table.specs.Board.{ComesAfter, IsNextAfter, is_unfinished, lent_to, mark_at};
@@ -15,7 +17,9 @@ ghost use Rattle.value_core.specs.Named.{Name as Called};
 ghost use Rattle.world_steps.specs.Kept.{shared_of};
 
 use crate::over::end_by;
+use attempts_gone::prune;
 use lent_pieces::{copy_machine, give_to, work_in};
+use ref_store::Store;
 use serial_model::End;
 use shared_world::Given;
 use std::alloc::{AllocError, Global};
@@ -27,20 +31,21 @@ use world_reset::{next_piece, reset};
 use world_steps::Kept;
 
 /// Ends the run by one thread: every claim ends, everything goes back to where the history left it, so that no attempt is left, no turn
-/// runs ahead, and nothing is held, and then one entry after the other is settled, each in turn, until the run is over. For want of memory
-/// the history has grown by whole entries.
+/// runs ahead, and nothing is held, and then one entry after the other is settled, each in turn, until the run is over. Of each ref few
+/// versions are kept. For want of memory the history has grown by whole entries.
 pub fn finish(kept: &mut Kept, alloc: Global) -> Result<End, AllocError>
     requires stands { Stands (shared_of kept.old) }
     requires marks { HasMarks (shared_of kept.old) }
     ensures stands { Stands (shared_of kept.new) }
     ensures marks { HasMarks (shared_of kept.old) → HasMarks (shared_of kept.new) }
+    ensures few { KeepsFew (shared_of kept.old) → KeepsFew (shared_of kept.new) }
     ensures later { IsLater (shared_of kept.old) (shared_of kept.new) }
     ensures turns { GoesInTurn (shared_of kept.old) (shared_of kept.new) }
     ensures finished { IfOk result (IsFinished (shared_of kept.new)) }
 {
     withdraw(kept, alloc)?;
     let end = settle_all(kept, alloc)?;
-    clear_attempts(&mut kept.attempts);
+    clear_attempts(&mut kept.attempts, &mut kept.store, alloc);
     Ok(end)
 }
 
@@ -163,11 +168,13 @@ fn waits(given: Given) -> bool {
     }
 }
 
-/// No attempt is left.
-fn clear_attempts(attempts: &mut BTreeMap<Name, Tree>)
-    ensures { attempts.new.entries ≡ [] }
+/// No attempt is left, and no version that only one read. It takes no memory.
+fn clear_attempts(attempts: &mut BTreeMap<Name, Tree>, store: &mut Store, alloc: Global)
+    ensures none { attempts.new.entries ≡ [] }
+    ensures pruned { ArePrunedFor attempts.new.entries store.old.versions store.new.versions }
 {
     attempts.clear();
+    prune(attempts, store, Vec::new(alloc));
 }
 
 /// Whether a step of the piece is in turn, where it is the first that is not passed: a unit or a task that is not finished, or an actor

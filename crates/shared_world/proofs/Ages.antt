@@ -114,7 +114,7 @@ module _ (old : Shared) (u : Name) (x : Unit) (found : Given) (new : Shared) whe
 
   unit-turn : (h : Halt) → UnitGives old u x h found new → Turnover old found new
   unit-turn (halt.Ask (request.Print text) at) r = settles-turn old _ u x _ found new refl r
-  unit-turn (halt.Ask (request.NewRef v) at) r = settles-turn old _ u x _ found new refl r
+  unit-turn (halt.Ask (request.NewRef v) at) r = settles-turn old _ u x _ found new refl r.settles
   unit-turn (halt.Ask (request.Deref ref) at) r = derefs-turn (ref_now old.versions ref) r
   unit-turn (halt.Ask (request.RefSet ref v) at) r = ends-turn old _ _ found new r
   unit-turn (halt.Ask (request.Fork body values) at) r = forks-turn body values (old.made == old.setup.limits.units) r

@@ -68,7 +68,7 @@ module _ (old : Shared) where
   -- what a unit comes to
   pub unit-gives : (u : Name) (x : Unit) (h : Halt) (found : Given) (new : Shared) → UnitGives old u x h found new → Appends (settled_by found) old new
   unit-gives u x (halt.Ask (request.Print text) at) found new row = settles _ u x _ found new refl refl row
-  unit-gives u x (halt.Ask (request.NewRef v) at) found new row = settles _ u x _ found new refl refl row
+  unit-gives u x (halt.Ask (request.NewRef v) at) found new row = settles _ u x _ found new refl refl row.settles
   unit-gives u x (halt.Ask (request.Deref ref) at) found new row = on (ref_now old.versions ref) row
     where
       on : (v : Option Value) → Derefs old u x v found new → Appends (settled_by found) old new

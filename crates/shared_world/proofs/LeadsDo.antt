@@ -60,7 +60,7 @@ module _ (old : Shared) (u : Name) (x : Unit) (h : Ahead) (found : Given) (new :
 
   first-led : (r : Request) (rest : List Request) → FirstSettles old u x h r rest found new → IsLed old found new
   first-led (request.Print text) rest g = settles-led _ _ _ (record { setup = refl; history = refl; attempts = refl }) g
-  first-led (request.NewRef v) rest g = settles-led _ _ _ (record { setup = refl; history = refl; attempts = refl }) g
+  first-led (request.NewRef v) rest g = settles-led _ _ _ (record { setup = refl; history = refl; attempts = refl }) g.settles
   first-led (request.Deref ref) rest g = absurd g
   first-led (request.RefSet ref v) rest g = absurd g
   first-led (request.Fork body values) rest g = on (old.made == old.setup.limits.units) g

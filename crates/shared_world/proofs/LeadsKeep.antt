@@ -24,7 +24,7 @@ use Rattle.value_core.specs.Named.{Name, named}
 module _ (old : Shared) (st : Stands old) (on_going : old.end ≡ None) (u : Name) (x : Unit) (there : unit_at old.board u ≡ Some x) (h : Ahead) (leads : named u old.aheads ≡ Some h) (found : Given) (new : Shared) where
   first-keeps : (r : Request) (rest : List Request) → h.takes ≡ None → h.held ≡ r ∷ rest → FirstSettles old u x h r rest found new → Stands new
   first-keeps (request.Print text) rest definite held g = lead-settles old st on_going u x there h leads _ _ _ _ (settles-print old st on_going u x there h leads text rest definite held) found new g
-  first-keeps (request.NewRef v) rest definite held g = lead-settles old st on_going u x there h leads _ _ _ _ (settles-ref old st on_going u x there h leads v rest definite held) found new g
+  first-keeps (request.NewRef v) rest definite held g = lead-settles old st on_going u x there h leads _ _ _ _ (settles-ref old st on_going u x there h leads v rest definite held) found new g.settles
   first-keeps (request.Deref ref) rest definite held g = absurd g
   first-keeps (request.RefSet ref v) rest definite held g = absurd g
   first-keeps (request.Fork body values) rest definite held g = by (old.made == old.setup.limits.units) refl g

@@ -6,6 +6,7 @@ pub mod Besides
 pub mod Commits
 pub mod Doing
 pub mod Effects
+pub mod Few
 pub mod Gone
 pub mod Hangs
 pub mod Kept

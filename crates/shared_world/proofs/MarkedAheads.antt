@@ -299,7 +299,7 @@ module _ (old : Shared) (st : Stands old) (all : AreMarked old) (on_going : old.
 
   first : (r : Request) (rest : List Request) → FirstSettles old u x h r rest found new → AreMarked new
   first (request.Print text) rest g = settles (record old { bytes = old.bytes ++ text }) (plainly (record old { bytes = old.bytes ++ text }) refl) plain-apart (left_after h (request.Print text) rest) (left-so (request.Print text) rest) _ g
-  first (request.NewRef v) rest g = settles (record old { versions = with_ref v }) (plainly (record old { versions = with_ref v }) refl) plain-apart (left_after h (request.NewRef v) rest) (left-so (request.NewRef v) rest) _ g
+  first (request.NewRef v) rest g = settles (record old { versions = with_ref v }) (plainly (record old { versions = with_ref v }) refl) plain-apart (left_after h (request.NewRef v) rest) (left-so (request.NewRef v) rest) _ g.settles
   first (request.Deref ref) rest g = absurd g
   first (request.RefSet ref v) rest g = absurd g
   first (request.Fork body values) rest g = on (old.made == old.setup.limits.units) g

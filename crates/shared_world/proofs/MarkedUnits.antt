@@ -410,7 +410,7 @@ module _ (old : Shared) (st : Stands old) (all : AreMarked old) (u : Name) (x : 
 
   pub marked-unit : (h : Halt) → next_of old.setup (unit_state x) ≡ h → UnitGives old u x h found new → AreMarked new
   marked-unit (halt.Ask (request.Print text) at) asks r = goes-on old st all u x here at_u (λ b vs spot e. let no = sym asks ∙ e in cc) (record old { bytes = old.bytes ++ text }) _ found new (same-but old _ (record { setup = refl; attempts = λ v. refl; owners = refl; aheads = refl; taken = refl; pieces = λ n. refl; mails = λ a. refl }) all) r
-  marked-unit (halt.Ask (request.NewRef v) at) asks r = goes-on old st all u x here at_u (λ b vs spot e. let no = sym asks ∙ e in cc) _ _ found new (same-but old _ (record { setup = refl; attempts = λ v. refl; owners = refl; aheads = refl; taken = refl; pieces = λ n. refl; mails = λ a. refl }) all) r
+  marked-unit (halt.Ask (request.NewRef v) at) asks r = goes-on old st all u x here at_u (λ b vs spot e. let no = sym asks ∙ e in cc) _ _ found new (same-but old _ (record { setup = refl; attempts = λ v. refl; owners = refl; aheads = refl; taken = refl; pieces = λ n. refl; mails = λ a. refl }) all) r.settles
   marked-unit (halt.Ask (request.Deref ref) at) asks r = marked-derefs (ref_now old.versions ref) (λ b vs spot e. let no = sym asks ∙ e in cc) r
   marked-unit (halt.Ask (request.RefSet ref v) at) asks r = absurd (ends-going old _ _ found new r on_going)
   marked-unit (halt.Ask (request.Fork body values) at) asks r = marked-forks body values at (old.made == old.setup.limits.units) asks r

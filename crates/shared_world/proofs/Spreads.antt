@@ -301,7 +301,7 @@ module _ (old : Shared) (u : Name) (x : Unit) (was : is_unfinished old.board u �
   unit-spread : (h : Halt) → next_made u (unit_state x) ≡ made → UnitGives old u x h found new → Spread
   unit-spread (halt.Ask (request.Print text) at) is r = settles-here (record old { bytes = old.bytes ++ text }) _ refl refl r
   unit-spread (halt.Ask (request.NewRef v) at) is r =
-      settles-here (record old { versions = committed old.versions ((next_made u (unit_state x), v) ∷ []) (suc (length old.history)) }) _ refl refl r
+      settles-here (record old { versions = committed old.versions ((next_made u (unit_state x), v) ∷ []) (suc (length old.history)) }) _ refl refl r.settles
   unit-spread (halt.Ask (request.Deref ref) at) is r = derefs-spread (ref_now old.versions ref) r
   unit-spread (halt.Ask (request.RefSet ref v) at) is r = ends-spread _ r
   unit-spread (halt.Ask (request.Fork body values) at) is r = forks-spread body values (old.made == old.setup.limits.units) is r

@@ -255,8 +255,8 @@ module _ (old : Shared) (st : Stands old) (u : Name) (x : Unit) (here : IsHere o
 
   makes-ref : (v : Value) (at : Spot) → next_of old.setup unit ≡ halt.Ask (request.NewRef v) at → (found : Given) (new : Shared)
       → UnitGives old u x (halt.Ask (request.NewRef v) at) found new → Stands new
-  makes-ref v at asks found new r = subst Stands (sym r.others)
-      (settled r.unit after old.board new.board same-base r.stands r.set old.mails versions old.bytes after_world is_world (ap (λ h. h ++ Run u ∷ []) st.seen.history) (one-version old st n v)
+  makes-ref v at asks found new r = subst Stands (sym r.settles.others)
+      (settled r.settles.unit after old.board new.board same-base r.settles.stands r.settles.set old.mails versions old.bytes after_world is_world (ap (λ h. h ++ Run u ∷ []) st.seen.history) (one-version old st n v)
       (λ q. refl) st.seen.actors (λ a. refl) st.seen.mails (λ v. refl) st.seen.bytes st.seen.made refl (no-attempt (λ body values spot e. let no = sym asks ∙ e in cc))
       (λ q tree there ref. let way = st.attempts is_going_so q tree there in let within = way.within in read_below old.versions ((n, v) ∷ []) (suc (length old.history)) tree.snapshot tt (omega (arith, within)) ref)
       (above_committed old.versions versions ((n, v) ∷ []) (suc (length old.history)) tt refl st.numbers (suc (suc (length old.history))) (omega arith)))

@@ -8,6 +8,7 @@ use Rattle.serial_model.specs.State.{Setup, State}
 use Rattle.shared_world.specs.Counts.{IsLateFor, Runs, age_of, undone_among, undone_by}
 use Rattle.shared_world.specs.declared.given.Given.{Given}
 use Rattle.shared_world.specs.declared.given.Given.TheVariants as given
+use Rattle.shared_world.specs.Few.{KeepsFew}
 use Rattle.shared_world.specs.Gave.{Gave}
 use Rattle.shared_world.specs.Later.{Appends, settled_by}
 use Rattle.shared_world.specs.HeldUp.{IsHeldUp}
@@ -43,6 +44,14 @@ GaveMarks = (old new : Shared) (result : Returned) (found : Given) → Stands ol
 -- those of main alone are
 abbrev pub OpeningMarks : Type 0
 OpeningMarks = (setup : Setup) (s : Shared) → IsOpening setup s → HasMarks s
+
+-- whatever a result comes to, few versions are kept of each ref afterwards where few were before
+abbrev pub GaveKeepsFew : Type 0
+GaveKeepsFew = (old new : Shared) (result : Returned) (found : Given) → KeepsFew old → Gave old result found new → KeepsFew new
+
+-- main alone keeps few
+abbrev pub OpeningKeepsFew : Type 0
+OpeningKeepsFew = (setup : Setup) (s : Shared) → IsOpening setup s → KeepsFew s
 
 -- While the run goes on something can be done with each piece that is there, unless a claim on it is out, it is finished, it waits
 -- for what is still to come, or it is an actor that has a turn or no mail.

@@ -1,6 +1,7 @@
 pub mod Ahead
 pub mod Counts
 pub mod Dependence
+pub mod Few
 pub mod Gave
 pub mod HeldUp
 pub mod Later

@@ -1,6 +1,6 @@
 //! Laws of the world as it is kept.
-ghost use Rattle.shared_world.specs.Laws.{AbortsAreFew, AbortsAreLate, AttemptsAge, GaveAppends, GaveKeeps, GaveMarks, OpeningMarks, OpeningStands, OthersAreReady, OverAtRest, UndoesAges, UndoesKeeps, UndoesMarks};
-ghost use Rattle.shared_world.specs.rows.Resetting.{ResetsMark, ResetsStand};
+ghost use Rattle.shared_world.specs.Laws.{AbortsAreFew, AbortsAreLate, AttemptsAge, GaveAppends, GaveKeeps, GaveKeepsFew, GaveMarks, OpeningKeepsFew, OpeningMarks, OpeningStands, OthersAreReady, OverAtRest, UndoesAges, UndoesKeeps, UndoesMarks};
+ghost use Rattle.shared_world.specs.rows.Resetting.{ResetsKeepFew, ResetsMark, ResetsStand};
 
 /// Whatever a result that is given back comes to, what is kept stands for the replay of its history afterwards.
 pub fn gave_keeps()
@@ -25,6 +25,17 @@ pub fn gave_marks()
 /// The marks of main alone are right.
 pub fn opening_marks()
     ensures { OpeningMarks }
+{}
+
+/// Whatever a result that is given back comes to, of each ref at most one version more is kept afterwards than there are live snapshots,
+/// where that was so before.
+pub fn gave_keeps_few()
+    ensures { GaveKeepsFew }
+{}
+
+/// That is so of main alone.
+pub fn opening_keeps_few()
+    ensures { OpeningKeepsFew }
 {}
 
 /// Something can be done with each piece that is not claimed, not finished, and waits for nothing that is to come, but for an actor that
@@ -76,4 +87,9 @@ pub fn resets_stand()
 /// And the marks of the pieces are right where they were before.
 pub fn resets_mark()
     ensures { ResetsMark }
+{}
+
+/// And few versions are kept of each ref.
+pub fn resets_keep_few()
+    ensures { ResetsKeepFew }
 {}

@@ -7,7 +7,7 @@ mod laws;
 
 pub use given::Given;
 pub use laws::{
-    aborts_are_few, aborts_are_late, attempts_age, gave_appends, gave_keeps, gave_marks,
-    opening_marks, opening_stands, others_are_ready, resets_mark, resets_stand, undoes_ages,
-    undoes_keeps, undoes_marks,
+    aborts_are_few, aborts_are_late, attempts_age, gave_appends, gave_keeps, gave_keeps_few,
+    gave_marks, opening_keeps_few, opening_marks, opening_stands, others_are_ready,
+    resets_keep_few, resets_mark, resets_stand, undoes_ages, undoes_keeps, undoes_marks,
 };

@@ -1,2 +1,3 @@
 pub mod CopiedMaps
 pub mod EffectMarks
+pub mod SendCounts

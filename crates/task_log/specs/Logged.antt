@@ -1,5 +1,5 @@
 -- How a task's log is kept.
-use Rattle.std.specs.Prelude.{◌≡◌, ℕ, List, map, refl}
+use Rattle.std.specs.Prelude.{◌≡◌, ◌+◌, ℕ, List, Option, None, Some, length, map, refl}
 use Rattle.std.specs.Coded.{Coded, code_by, coded×, coded_list, coded_ℕ}
 use Rattle.value_core.specs.contracts.value.Value as value
 use Rattle.value_core.specs.declared.value.Value.{Value}
@@ -7,7 +7,8 @@ use Rattle.serial_model.specs.contracts.effect.Effect as effect
 use Rattle.serial_model.specs.declared.effect.Effect.{Effect}
 use Rattle.serial_model.specs.declared.effect.What.{What}
 use Rattle.serial_model.specs.Log.{Log}
-use Rattle.value_core.specs.Named.{Name, Named, is_among, made_by}
+use Rattle.serial_model.specs.Sends.{effects_to, what_sends}
+use Rattle.value_core.specs.Named.{Name, Named, is_among, made_by, named}
 
 -- it is stored as its parts
 abbrev pub log_code : Coded Log
@@ -33,3 +34,20 @@ HasMarks members effects = HasMembers members (map mark_of effects)
 -- the effect that the task does next
 abbrev pub next_effect : Log → What → Effect
 next_effect log what = record { task = log.name; number = log.own; what = what }
+
+-- a count, and none where nothing is counted
+abbrev pub count_in : Option ℕ → ℕ
+count_in None = 0
+count_in (Some n) = n
+
+-- how many are counted for a name
+abbrev pub count_at : Name → Named ℕ → ℕ
+count_at name counts = count_in (named name counts)
+
+-- for each actor as many are counted as the effects send to it
+abbrev pub CountsSends : Named ℕ → List Effect → Type 0
+CountsSends counts effects = (actor : Name) → count_at actor counts ≡ length (effects_to actor effects)
+
+-- what the effect sends is counted
+abbrev pub IsCounted : What → Named ℕ → Named ℕ → Type 0
+IsCounted what old new = (actor : Name) → count_at actor new ≡ count_at actor old + length (what_sends actor what)

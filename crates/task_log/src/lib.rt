@@ -3,6 +3,7 @@
 
 pub mod acts;
 mod log;
+mod send_counts;
 mod shared_list;
 
 pub use log::TaskLog;

@@ -1,12 +1,14 @@
-ghost use Rattle.std.specs.Prelude.{◌≡◌, ◌∷◌, ◌++◌, [], IfOk, OnErr, OnOk, fold};
+ghost use Rattle.std.specs.Prelude.{◌≡◌, ◌∷◌, ◌++◌, [], IfOk, OnErr, OnOk, fold, length};
 ghost use Rattle.std.specs.Option.{option_copied};
 ghost use Rattle.serial_model.specs.Log.{merged, new_log, with_effect, with_made as made_more, with_write, with_missing, is_held as held_in};
 ghost use Rattle.serial_model.specs.declared.effect.Effect.{Effect as Effecting};
 ghost use Rattle.serial_model.specs.declared.effect.What.TheVariants as what;
-ghost use Rattle.task_log.specs.Logged.{mark_of, next_effect, HasMarks, HasMembers};
+ghost use Rattle.serial_model.specs.Sends.{effects_to};
+ghost use Rattle.task_log.specs.Logged.{mark_of, next_effect, CountsSends, HasMarks, HasMembers};
 ghost use Rattle.value_core.specs.Named.{is_among, named, over, made_by, with_name, Rises};
 
 use crate::SharedList;
+use crate::send_counts::{count_of, count_send};
 use crate::shared_list::{list_effects, list_names};
 use serial_model::{Effect, What};
 use shared_map::{SharedMap, SharedNames};
@@ -24,6 +26,8 @@ pub struct TaskLog {
     own: u32,
     effects: SharedList<Effect>,
     held: SharedNames,
+    // How many of the effects send something to an actor, by its name.
+    sends: SharedMap<usize>,
 }
 
 impl Drop for TaskLog {
@@ -37,13 +41,14 @@ impl Drop for TaskLog {
             own: _,
             effects: _effects,
             held: _held,
+            sends: _sends,
         } = self;
     }
 }
 
 impl Model for TaskLog {
     ghost use Rattle.serial_model.specs.Log.{Log};
-    ghost use Rattle.task_log.specs.Logged.{log_code, HasMarks, HasMembers};
+    ghost use Rattle.task_log.specs.Logged.{log_code, CountsSends, HasMarks, HasMembers};
 
     ghost Value = { Log };
 
@@ -58,7 +63,7 @@ impl Model for TaskLog {
       effects = l.effects;
     } };
 
-    ghost invariant = { λ l. HasMembers l.among_joined l.joined × HasMarks l.held l.effects };
+    ghost invariant = { λ l. HasMembers l.among_joined l.joined × HasMarks l.held l.effects × CountsSends l.sends l.effects };
 }
 
 impl TaskLog {
@@ -75,6 +80,7 @@ impl TaskLog {
             own: 0,
             effects: SharedList::new(alloc),
             held: SharedNames::new(alloc),
+            sends: SharedMap::new(alloc),
         }
     }
 
@@ -91,6 +97,7 @@ impl TaskLog {
             own: self.own,
             effects: self.effects.copy()?,
             held: self.held.copy()?,
+            sends: self.sends.copy()?,
         })
     }
 
@@ -158,7 +165,7 @@ impl TaskLog {
     {
         let effect = effect_of(alloc, &self.name, self.own, what)?;
         let mark = effect.task.child(alloc, effect.number)?;
-        self.append(mark, effect)
+        self.append(alloc, mark, effect)
     }
 
     /// Makes a ref of that value, the next thing that the task makes. For want of memory the log stays.
@@ -191,12 +198,16 @@ impl TaskLog {
     }
 
     /// Appends an effect with its mark. For want of memory the log stays.
-    fn append(&mut self, mark: Name, effect: Effect) -> Result<(), AllocError>
+    fn append(&mut self, alloc: Global, mark: Name, effect: Effect) -> Result<(), AllocError>
         requires { mark ≡ mark_of effect }
         ensures appended { OnOk result (self.new ≡ record self.old { effects = self.old.effects ++ effect ∷ [] }) }
         ensures same { OnErr result (self.new ≡ self.old) }
     {
-        append(&mut self.effects, &mut self.held, mark, effect)
+        let mut sends = self.sends.copy()?;
+        count_send(alloc, &mut sends, &effect.what)?;
+        append(&mut self.effects, &mut self.held, mark, effect)?;
+        self.sends = sends;
+        Ok(())
     }
 
     /// Whether the task has joined the future.
@@ -275,7 +286,7 @@ impl TaskLog {
         if self.holds(&mark) {
             return Ok(());
         }
-        self.append(mark, effect)
+        self.append(alloc, mark, effect)
     }
 
     /// Whether an effect with that mark is there.
@@ -297,6 +308,13 @@ impl TaskLog {
         ensures { result.now ≡ self.now.effects }
     {
         &self.effects
+    }
+
+    /// How many of the effects send something to that actor. It takes no memory, and walks no effect.
+    pub fn sends_to(&self, actor: &Name) -> usize
+        ensures { result ≡ length (effects_to actor.now self.now.effects) }
+    {
+        count_of(&self.sends, actor)
     }
 }
 

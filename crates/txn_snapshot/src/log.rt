@@ -1,6 +1,7 @@
-ghost use Rattle.std.specs.Prelude.{◌≡◌, false, is_some, Some, IfOk, OnErr, OnOk};
+ghost use Rattle.std.specs.Prelude.{◌≡◌, false, is_some, length, Some, IfOk, OnErr, OnOk};
 ghost use Rattle.std.specs.Option.{option_copied, option_map, option_or};
 ghost use Rattle.serial_model.specs.Ahead.{answer_ahead};
+ghost use Rattle.serial_model.specs.Sends.{effects_to};
 ghost use Rattle.serial_model.specs.Task.{done_by};
 ghost use Rattle.txn_snapshot.specs.SnapshotAnswer.{answer_of, reads_ref, replies, sets_ref, snapshot_of, IsAnswerable, NamesRef};
 ghost use Rattle.txn_snapshot.specs.SnapshotTask.{having_forked, having_merged, new_task, private, Stays};
@@ -292,6 +293,13 @@ impl TaskLog {
         ensures { result.now ≡ self.now.log.effects }
     {
         self.log.effects()
+    }
+
+    /// How many of these effects send something to that actor. It takes no memory, and walks no effect.
+    pub fn sends_to(&self, actor: &Name) -> usize
+        ensures { result ≡ length (effects_to actor.now self.now.log.effects) }
+    {
+        self.log.sends_to(actor)
     }
 
     /// The refs that the task wrote, and those that came by joins, with their values. It takes no memory.

@@ -22,7 +22,6 @@ use value_core::{Name, Ticket};
 
 /// Units, tasks and actors by name, with their marks. What is ready can be lent under a claim, and is not lent again before
 /// that claim is taken back or a mark ends it. Only `reserve`, the additions and `lend` take memory.
-#[derive(Drop)]
 pub struct Units {
     places: Places,
     // The slots of the units that are not finished.
@@ -40,6 +39,15 @@ impl Model for Units {
     ghost view = { λ u. board_of u.places };
 
     ghost invariant = { λ u. IsKept (board_of u.places) u.places.waits × AreUnfinished (board_of u.places) u.unfinished };
+}
+
+impl Drop for Units {
+    fn drop(self) {
+        let Units {
+            places: _places,
+            unfinished: _unfinished,
+        } = self;
+    }
 }
 
 impl Units {

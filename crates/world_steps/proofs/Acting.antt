@@ -87,6 +87,11 @@ claims-stay gone old mid new others same ends going ticket =
     on None = same.to ticket
     on (Some e) = refl
 
+-- what is there is seen
+pub same-some : {X Y : Type 0} (f : X → Y) (o : Option X) → is_some o ≡ is_some (option_map f o)
+same-some f None = refl
+same-some f (Some x) = refl
+
 -- a reference is there where what it refers to is
 pub copied-there : {X : Type 0} (o : Option (Bor X)) → is_some o ≡ is_some (option_copied o)
 copied-there None = refl

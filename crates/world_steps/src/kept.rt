@@ -1,4 +1,4 @@
-ghost use Rattle.std.specs.Prelude.{◌≡◌, ◌<◌, ◌++◌, ◌∷◌, [], IfOk, IfSome, OnErr, OnOk, Some, false};
+ghost use Rattle.std.specs.Prelude.{◌≡◌, ◌<◌, ◌++◌, ◌∷◌, [], IfOk, IfSome, OnErr, OnOk, Some, false, is_some};
 ghost use Rattle.std.specs.Option.{IsSome};
 ghost use Rattle.eval_step.specs.Evaluation.{IsAsking};
 ghost use Rattle.world_steps.specs.Kept.{shared_of};
@@ -13,6 +13,7 @@ ghost use Rattle.unit_table.specs.Board.{unit_at, CanWait};
 ghost use Rattle.unit_table.specs.Piece.{says_dropped};
 ghost use Rattle.unit_table.specs.declared.mark.Mark.TheVariants as mark;
 ghost use Rattle.unit_table.specs.declared.mark.Work.TheVariants as work;
+ghost use Rattle.value_core.specs.Named.{named};
 
 use actor_mailbox::Message;
 use actor_mails::Mails;
@@ -27,6 +28,7 @@ use std::sync::Arc;
 use task_fork_join::Tree;
 use turns_ahead::TurnAhead;
 use unit_table::{Mark, Units, Work};
+use value_core::name_map::find;
 use value_core::{Name, Places, Value};
 
 /// What the world keeps. Of each actor the message is taken of its turn whose begin is held; and each turn that runs ahead is kept
@@ -63,6 +65,13 @@ pub struct Ready {
 }
 
 impl Kept {
+    /// Whether a turn of that name runs ahead. It takes no memory.
+    pub fn runs_ahead(&self, name: &Name) -> bool
+        ensures { result ≡ is_some (named name.now (shared_of self.now).aheads) }
+    {
+        find(&self.aheads, name).is_some()
+    }
+
     /// Makes room for one entry more.
     pub fn make_room(&mut self) -> Result<(), AllocError>
         ensures same { shared_of self.new ≡ shared_of self.old }

@@ -3,6 +3,7 @@ ghost use Rattle.std.specs.Prelude.{◌≡◌, ◌<◌, ◌∷◌, [], IfOk, IfS
 ghost use Rattle.std.specs.Option.{option_copied, IsSome};
 ghost use Rattle.std.specs.Arc.{arc_value};
 ghost use Rattle.eval_step.specs.Evaluation.{IsAsking};
+ghost use Rattle.ref_store.specs.Store.{versions_of};
 ghost use Rattle.world_steps.specs.Kept.{shared_of, IsSameBut, IsUnitOf};
 ghost use Rattle.world_steps.specs.Moved.{IsBegun, IsForking, IsMadeNext, IsPlainPut};
 ghost use Rattle.world_steps.specs.Rows.{Comes, EndsOr, ForksOr, PlainOr, Replies, WaitsOr};
@@ -121,12 +122,23 @@ impl Kept {
             told,
             count,
         } = made_next(alloc, name, self.made_of(name))?;
+        self.check_new_ref(&made)?;
         let writes = one_write(alloc, made, content)?;
         let number = self.next_number()?;
         let ready = self.prepare(alloc, name, moved, Value::Ref(told))?;
         self.store.reserve(alloc, &writes)?;
         self.store.commit(writes, number);
         Ok(self.settle(name, ready, count))
+    }
+
+    /// The ref has no version yet. Where it has one, of which no run knows, it is taken for want of memory.
+    pub fn check_new_ref(&self, made: &Name) -> Result<(), AllocError>
+        ensures { OnOk result (versions_of self.now.store.versions made.now ≡ []) }
+    {
+        match self.store.newest(made) {
+            Some(_) => Err(AllocError),
+            None => Ok(()),
+        }
     }
 
     /// The number of the entry that comes next, from one.

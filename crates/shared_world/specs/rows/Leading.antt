@@ -7,7 +7,7 @@ use Rattle.actor_mailbox.specs.Messages.{definite}
 use Rattle.actor_mails.specs.Mails.{Mail, IsMailed, SameMail, mail_at}
 use Rattle.core_syntax.specs.declared.behaviour.Behaviour.{Behaviour}
 use Rattle.core_syntax.specs.declared.node_id.NodeId.{NodeId}
-use Rattle.ref_store.specs.Store.{committed}
+use Rattle.ref_store.specs.Store.{committed, versions_of}
 use Rattle.serial_model.specs.declared.actor_state.ActorState.{ActorState}
 use Rattle.serial_model.specs.declared.end.End.TheVariants as ending
 use Rattle.serial_model.specs.declared.entry.Entry.{Entry}
@@ -239,11 +239,15 @@ ForkSettles old u x h body values rest true found new = Ends old u ending.UnitsS
 ForkSettles old u x h body values rest false found new =
     (base : Shared) × ForksHeld old (next_made u (left_at h (unit_state x))) body values base × LeadSettles base u x (left_after h (request.Fork body values) rest) (Run u) found new
 
+-- a ref that had no version has its first
+pub record RefSettles (old : Shared) (u : Name) (x : Unit) (h : Ahead) (v : Value) (rest : List Request) (found : Given) (new : Shared) : Type 0 where
+  pub none : versions_of old.versions (next_made u (left_at h (unit_state x))) ≡ []
+  pub settles : LeadSettles (record old { versions = committed old.versions ((next_made u (left_at h (unit_state x)), v) ∷ []) (suc (length old.history)) }) u x (left_after h (request.NewRef v) rest) (Run u) found new
+
 -- Settled: the first request that it holds is done
 abbrev pub FirstSettles : Shared → Name → Unit → Ahead → Request → List Request → Given → Shared → Type 0
 FirstSettles old u x h (request.Print text) rest found new = LeadSettles (record old { bytes = old.bytes ++ text }) u x (left_after h (request.Print text) rest) (Run u) found new
-FirstSettles old u x h (request.NewRef v) rest found new =
-    LeadSettles (record old { versions = committed old.versions ((next_made u (left_at h (unit_state x)), v) ∷ []) (suc (length old.history)) }) u x (left_after h (request.NewRef v) rest) (Run u) found new
+FirstSettles old u x h (request.NewRef v) rest found new = RefSettles old u x h v rest found new
 FirstSettles old u x h (request.Spawn behaviour state) rest found new =
     (base : Shared) × SpawnsHeld old (next_made u (left_at h (unit_state x))) behaviour state base × LeadSettles base u x (left_after h (request.Spawn behaviour state) rest) (Run u) found new
 FirstSettles old u x h (request.Fork body values) rest found new = ForkSettles old u x h body values rest (old.made == old.setup.limits.units) found new

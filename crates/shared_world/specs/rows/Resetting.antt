@@ -5,6 +5,7 @@ use Rattle.actor_mailbox.specs.Messages.{without}
 use Rattle.actor_mails.specs.Mails.{mail_at}
 use Rattle.serial_model.specs.State.{Setup}
 use Rattle.shared_world.specs.Ahead.{Ahead}
+use Rattle.shared_world.specs.Few.{KeepsFew}
 use Rattle.shared_world.specs.Marks.{HasMarks}
 use Rattle.shared_world.specs.rows.Actors.{actor_with}
 use Rattle.shared_world.specs.rows.Attempts.{ArePrunedFor}
@@ -73,3 +74,7 @@ ResetsStand = (old new : Shared) → Stands old → Resets old new → Stands ne
 -- and the marks are right where they were
 abbrev pub ResetsMark : Type 0
 ResetsMark = (old new : Shared) → Stands old → HasMarks old → Resets old new → HasMarks new
+
+-- and few versions are kept of each ref, however many were before
+abbrev pub ResetsKeepFew : Type 0
+ResetsKeepFew = (old new : Shared) → Resets old new → KeepsFew new

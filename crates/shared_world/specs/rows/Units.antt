@@ -1,7 +1,7 @@
 -- What a unit comes to.
 use Rattle.std.specs.Prelude.{◌≡◌, ◌==◌, ◌++◌, ◌∷◌, [], ℕ, List, length, Option, None, Some, suc, Bool, true, false}
 use Rattle.core_syntax.specs.declared.node_id.NodeId.{NodeId}
-use Rattle.ref_store.specs.Store.{committed}
+use Rattle.ref_store.specs.Store.{committed, versions_of}
 use Rattle.serial_model.specs.declared.end.End.TheVariants as ending
 use Rattle.serial_model.specs.declared.halt.Halt.{Halt}
 use Rattle.serial_model.specs.declared.halt.Halt.TheVariants as halt
@@ -32,6 +32,12 @@ pub record Waits (old : Shared) (u : Name) (x : Unit) (future : Name) (found : G
   pub found_is : found ≡ given.Waiting (wait.Finish future)
   pub marked : IsMarkedUnit old.setup u x (mark.Waiting (wait.Finish future)) old.board new.board
   pub others : new ≡ record old { board = new.board }
+
+-- Settled: a ref that had no version has its first, and the unit goes on with it
+pub record MakesRef (old : Shared) (u : Name) (x : Unit) (v : Value) (found : Given) (new : Shared) : Type 0 where
+  pub none : versions_of old.versions (next_made u (unit_state x)) ≡ []
+  pub settles : Settles (record old { versions = committed old.versions ((next_made u (unit_state x), v) ∷ []) (suc (length old.history)) }) u x
+      (answered (with_made (unit_state x)) (value.Ref (next_made u (unit_state x)))) found new
 
 -- Settled: a plain unit with that body and those values is there, and the unit goes on with its future
 pub record Forks (old : Shared) (u : Name) (x : Unit) (body : NodeId) (values : List Value) (found : Given) (new : Shared) : Type 0 where
@@ -80,9 +86,7 @@ Finishes old u x v (Some actor) found new = FinishesTurn old u x actor v found n
 -- What the unit comes to that halts so.
 abbrev pub UnitGives : Shared → Name → Unit → Halt → Given → Shared → Type 0
 UnitGives old u x (halt.Ask (request.Print text) at) found new = Settles (record old { bytes = old.bytes ++ text }) u x (answered (unit_state x) value.Nil) found new
-UnitGives old u x (halt.Ask (request.NewRef v) at) found new =
-    Settles (record old { versions = committed old.versions ((next_made u (unit_state x), v) ∷ []) (suc (length old.history)) }) u x
-    (answered (with_made (unit_state x)) (value.Ref (next_made u (unit_state x)))) found new
+UnitGives old u x (halt.Ask (request.NewRef v) at) found new = MakesRef old u x v found new
 UnitGives old u x (halt.Ask (request.Deref ref) at) found new = Derefs old u x (ref_now old.versions ref) found new
 UnitGives old u x (halt.Ask (request.RefSet ref v) at) found new = Ends old u (ending.Fault code.NoTransaction at u) found new
 UnitGives old u x (halt.Ask (request.Fork body values) at) found new = ForksIfAllowed old u x body values (old.made == old.setup.limits.units) found new

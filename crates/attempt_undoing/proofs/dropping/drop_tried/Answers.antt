@@ -1,4 +1,4 @@
-use Rattle.std.proofs.Common.{◌≡◌, ◌∙◌, ap, sym}
+use Rattle.std.proofs.Common.{◌∙◌, ap, sym}
 use Rattle.std.specs.Option.{option_copied}
 use Rattle.attempt_undoing.proofs.TurnsGone.{none-tried, tried-goes}
 use Rattle.attempt_undoing.proofs.dropping.drop_tried.Goals as goal

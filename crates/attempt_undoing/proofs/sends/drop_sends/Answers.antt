@@ -1,7 +1,7 @@
 use Rattle.std.proofs.Common.{◌≡◌, ◌∙◌, ◌+◌, ◌∷◌, List, ap, arith, drop, subst, suc, sym}
 use Rattle.std.proofs.Math.Seq.{drop-cons}
 use Rattle.std.proofs.lemmas.List.{drop_all}
-use Rattle.attempt_undoing.proofs.SendsGone.{SendsLeft, all-sends, no-sends, one-sent, right-marked}
+use Rattle.attempt_undoing.proofs.SendsGone.{SendsLeft, no-sends, one-sent}
 use Rattle.attempt_undoing.proofs.sends.drop_sends.Goals as goal
 use Rattle.attempt_undoing.specs.declared.hanging.Sent.{Sent}
 use Rattle.world_steps.specs.declared.kept.Kept.{Kept}

@@ -1,5 +1,4 @@
-use Rattle.std.proofs.Common.{inl, inr, refl, subst}
-use Rattle.std.specs.Prelude.{Some}
+use Rattle.std.proofs.Common.{inr, refl, subst}
 use Rattle.attempt_undoing.proofs.SendsGone.{mark-kept, mark-other, mark-put}
 use Rattle.attempt_undoing.proofs.sends.mark_actor.Goals as goal
 use Rattle.attempt_undoing.specs.Sends.{IsNewMark}

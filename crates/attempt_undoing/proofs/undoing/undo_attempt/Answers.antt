@@ -1,4 +1,4 @@
-use Rattle.std.proofs.Common.{ap, refl, subst, sym}
+use Rattle.std.proofs.Common.{ap, refl, subst}
 use Rattle.attempt_undoing.proofs.Claims.{idle-end}
 use Rattle.attempt_undoing.proofs.Undone.{undone-all}
 use Rattle.attempt_undoing.proofs.undoing.undo_attempt.Goals as goal

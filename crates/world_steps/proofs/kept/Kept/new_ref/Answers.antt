@@ -1,7 +1,7 @@
 use Rattle.std.proofs.Common.{◌≡◌, ◌∙◌, refl, ap, subst, suc, length, ◌++◌, ◌∷◌, []}
 use Rattle.world_steps.proofs.Settling.{at-unit, claims-so, row-for, same-claims, settled-so}
 use Rattle.world_steps.specs.Kept.{shared_of}
-use Rattle.ref_store.specs.Store.{committed}
+use Rattle.ref_store.specs.Store.{committed, versions_of}
 use Rattle.serial_model.specs.declared.answer.Answer.TheVariants as answer
 use Rattle.serial_model.specs.declared.halt.Halt.TheVariants as halts
 use Rattle.serial_model.specs.declared.request.Request.TheVariants as requests
@@ -37,9 +37,11 @@ returns c =
     let row = settled-so old base before new name c.args.moved c.in_ok-ready.ready.machine (value.Ref c.in_ok-made.field-0.told) c.in_ok-made.field-0.count c.settle.result c.requires.stands is refl is.there (same-claims old.board) refl
     at_base c.in_ok-ready.ensures.ready.given c.settle.ensures.found c.settle.ensures.set c.settle.ensures.others in
     record {
-      row = row-for old.board name (λ (x : Unit). UnitGives old name x (halts.Ask (requests.NewRef c.args.content) c.args.at) c.settle.result new) is.unit is.there
-          (subst (λ k. Settles base name is.unit (record (unit_state is.unit) { answers = is.unit.machine.answers ++ answer.Value (value.Ref k) ∷ []; made = suc is.unit.made }) c.settle.result new) told
-          (subst (λ m. Settles base name is.unit (record (unit_state is.unit) { answers = is.unit.machine.answers ++ answer.Value (value.Ref c.in_ok-made.field-0.told) ∷ []; made = m }) c.settle.result new) count row));
+      row = row-for old.board name (λ (x : Unit). UnitGives old name x (halts.Ask (requests.NewRef c.args.content) c.args.at) c.settle.result new) is.unit is.there (record {
+        none = subst (λ k. versions_of old.versions k ≡ []) named_so c.in_ok-check_new_ref.ensures;
+        settles = subst (λ k. Settles base name is.unit (record (unit_state is.unit) { answers = is.unit.machine.answers ++ answer.Value (value.Ref k) ∷ []; made = suc is.unit.made }) c.settle.result new) told
+            (subst (λ m. Settles base name is.unit (record (unit_state is.unit) { answers = is.unit.machine.answers ++ answer.Value (value.Ref c.in_ok-made.field-0.told) ∷ []; made = m }) c.settle.result new) count row);
+      });
       claims = claims-so old base before new name c.args.moved c.in_ok-ready.ready.machine (value.Ref c.in_ok-made.field-0.told) c.in_ok-made.field-0.count c.settle.result c.requires.stands is refl is.there (same-claims old.board) refl
           at_base c.in_ok-ready.ensures.ready.given c.settle.ensures.found c.settle.ensures.set c.settle.ensures.others;
     }
