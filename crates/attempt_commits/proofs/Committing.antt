@@ -2,8 +2,9 @@
 use Rattle.std.proofs.Common.{◌≡◌, ◌∙◌, ℕ, Bool, true, false, cond, suc, length, List, [], ◌∷◌, ◌++◌, refl, sym, ap, ap₂, subst, le_trans}
 use Rattle.std.specs.Option.{IsSome, option_and_then, option_map}
 use Rattle.std.specs.Prelude.{IfSome, None, Option, Some, is_some, map, ◌&&◌}
-use Rattle.actor_mails.specs.Mails.{mail_at}
+use Rattle.actor_mails.specs.Mails.{Mail, mail_at}
 use Rattle.eval_step.specs.Evaluation.{Evaluation}
+use Rattle.attempts_gone.proofs.Gone.{same_after}
 use Rattle.attempts_gone.proofs.Dropped.{claims-go, tasks-go, trying-unfinished, unit-stays}
 use Rattle.attempt_commits.proofs.Effects.{acted-so, becoming-or, letters-are}
 use Rattle.world_steps.proofs.Settling.{at-unit}
@@ -194,6 +195,19 @@ turn-of s st a m turns taken has =
     only : (q : Name) (o : Option Ahead) → named q s.aheads ≡ o → option_and_then (λ (h : Ahead). h.takes) o ≡ Some a → q ≡ made_by a has.begun.actor.turns
     only q None e is = cc
     only q (Some h) e is = takes-called s st q a h has.begun.actor e is has.begun.there
+
+-- what is done stays so where the same stands and the same is lent
+pub done-still : (u on : Name) (turns : Named Name) (d : Deeds) (taken now : Named Message) (mails after : Mail) (old mid new : Board) → AreDone u on turns d taken now mails after old mid
+    → SamePieces mid new → SameClaims mid new → AreDone u on turns d taken now mails after old new
+done-still u on turns d taken now mails after old mid new done pieces claims = record {
+  board = done.board;
+  unit = done.unit;
+  reached = done.reached;
+  settled = done.settled;
+  pieces = λ a. pieces a ∙ done.pieces a;
+  turned = done.turned;
+  claims = same_after old mid new done.claims claims;
+}
 
 -- The attempt is gone, the unit has moved on, and what the effects do to actors is done.
 module _ (old new : Shared) (mid settled_board : Board) (left : Named Attempt) (u : Name) (moved machine : Evaluation) (v : Value) (made number : ℕ) (g : Gathered) (found : Given) (st : Stands old) (going : old.end ≡ None)

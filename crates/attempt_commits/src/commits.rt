@@ -13,7 +13,7 @@ ghost use Rattle.world_model.specs.rows.Commits.{effects_bytes, what_bytes};
 
 use crate::deeds::{Deeds, deeds_of};
 use crate::doing::{do_deeds, room_for_deeds, turns_of};
-use attempts_gone::{drop_attempt, prune, room_for_snapshots};
+use attempts_gone::{drop_attempt, forget_tasks, prune, room_for_snapshots};
 use core_syntax::Program;
 use eval_step::Machine;
 use ref_store::Writes;
@@ -80,12 +80,13 @@ pub fn commit(
         live,
         ..
     } = gathered;
-    drop_attempt(&mut kept.attempts, &mut kept.units, owner);
+    let tasks = drop_attempt(&mut kept.attempts, &mut kept.units, owner);
     kept.store.commit(writes, number);
     prune(&kept.attempts, &mut kept.store, live);
     let given = kept.settle(owner, ready, made);
     kept.units.claims_are_tied();
     do_deeds(kept, alloc, owner, &root, &turns, deeds);
+    forget_tasks(&mut kept.units, tasks);
     Ok(given)
 }
 

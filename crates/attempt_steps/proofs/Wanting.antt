@@ -247,7 +247,7 @@ module _ (old mid : Shared) (st : Stands old) (on_going : is_going old.end ≡ t
   beside marked before (inl missing) = by went refl missing
     where
       by : (w : Stepped) → went ≡ w → is_missing w ≡ true → AreMarkedBeside base owner
-      by (stepped.NotInSnapshot ref) e m = missing-beside old marked owner task is.task_in.unit is.tree is.task_in.mark is.task_in.there is.task_in.of is.task_in.unit_there is.task_in.attempt before is.machine moved is.kept t.after went step base-stands on_going ref e
+      by (stepped.NotInSnapshot ref) e m = missing-beside old marked owner task is.task_in.unit is.tree is.task_in.mark is.task_in.there is.task_in.of is.task_in.unit_there is.task_in.attempt before is.machine moved is.kept is.same t.after went step base-stands on_going ref e
       by stepped.Now e m = cc
       by (stepped.Forked c) e m = cc
       by (stepped.WaitJoin f) e m = cc
@@ -256,7 +256,7 @@ module _ (old mid : Shared) (st : Stands old) (on_going : is_going old.end ≡ t
     where
       by : (o : Option TaskEnd) → end_at t.after ≡ o → true ≡ is_some o → AreMarkedBeside base owner
       by None e so = cc
-      by (Some end) e so = ended-beside old marked owner task is.task_in.unit is.tree is.task_in.mark is.task_in.there is.task_in.of is.task_in.unit_there is.task_in.attempt before is.machine moved is.kept t.after went step base-stands on_going end e
+      by (Some end) e so = ended-beside old marked owner task is.task_in.unit is.tree is.task_in.mark is.task_in.there is.task_in.of is.task_in.unit_there is.task_in.attempt before is.machine moved is.kept is.same t.after went step base-stands on_going end e
 
   pub taken-beside : AreMarked old → IfSome (named owner old.attempts) (λ tree. end_at tree ≡ None) → MayUndo mid owner went → AreMarkedBeside mid owner
   taken-beside marked unended may = subst (λ (s : Shared). AreMarkedBeside s owner) (sym t.mid_is)
@@ -341,19 +341,19 @@ module _ (old mid : Shared) (st : Stands old) (on_going : is_going old.end ≡ t
         claims = λ ticket free. same.claims.to ticket;
         ages = ages-so same.rest;
         no_fewer = none-gone-so same.rest;
-        marks = λ marks going. left-missing old (marks on_going) owner task is.task_in.unit is.tree is.task_in.mark is.task_in.there is.task_in.of is.task_in.unit_there is.task_in.attempt unended_so is.machine moved is.kept t.after went step base-stands on_going new held
+        marks = λ marks going. left-missing old (marks on_going) owner task is.task_in.unit is.tree is.task_in.mark is.task_in.there is.task_in.of is.task_in.unit_there is.task_in.attempt unended_so is.machine moved is.kept is.same t.after went step base-stands on_going new st held
             (same.pieces task ∙ is.task_in.there) (λ q other. same.pieces q) same.rest;
         rest = rest-so same.rest;
       }
       left (left_as.goes now readied) = readied-left work.Eval (inl refl) readied
-          (λ marks. left-now old (marks on_going) owner task is.task_in.unit is.tree is.task_in.mark is.task_in.there is.task_in.of is.task_in.unit_there is.task_in.attempt unended_so is.machine moved is.kept t.after went step base-stands on_going new now readied.marked)
+          (λ marks. left-now old (marks on_going) owner task is.task_in.unit is.tree is.task_in.mark is.task_in.there is.task_in.of is.task_in.unit_there is.task_in.attempt unended_so is.machine moved is.kept is.same t.after went step base-stands on_going new now readied.marked)
       left (left_as.again future waits readied) = readied-left work.Eval (inl refl) readied
-          (λ marks. left-again old (marks on_going) owner task is.task_in.unit is.tree is.task_in.mark is.task_in.there is.task_in.of is.task_in.unit_there is.task_in.attempt unended_so is.machine moved is.kept t.after went step base-stands on_going new future waits
+          (λ marks. left-again old (marks on_going) owner task is.task_in.unit is.tree is.task_in.mark is.task_in.there is.task_in.of is.task_in.unit_there is.task_in.attempt unended_so is.machine moved is.kept is.same t.after went step base-stands on_going new future waits
           readied.marked)
       left (left_as.settles ended readied) = readied-left work.Settle (inr refl) readied
           (λ marks.
           let end = ended-so ended in
-          left-ended old (marks on_going) owner task is.task_in.unit is.tree is.task_in.mark is.task_in.there is.task_in.of is.task_in.unit_there is.task_in.attempt unended_so is.machine moved is.kept t.after went step base-stands on_going new end.0 end.1
+          left-ended old (marks on_going) owner task is.task_in.unit is.tree is.task_in.mark is.task_in.there is.task_in.of is.task_in.unit_there is.task_in.attempt unended_so is.machine moved is.kept is.same t.after went step base-stands on_going new end.0 end.1
           readied.marked)
 
 -- what is as it was is the same but for room

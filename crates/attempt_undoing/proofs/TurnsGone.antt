@@ -11,7 +11,7 @@ use Rattle.shared_world.specs.rows.Attempts.{IsWithout}
 use Rattle.shared_world.specs.rows.Pieces.{but_gone, is_task, task_gone}
 use Rattle.shared_world.specs.Shared.{Shared}
 use Rattle.task_fork_join.specs.Attempt.{Attempt, names_in}
-use Rattle.unit_table.specs.Board.{Board, IsMarked, IsUnlent, but_for, lent_to, piece_at}
+use Rattle.unit_table.specs.Board.{Board, IsMarked, IsUnlent, SameClaims, SamePieces, but_for, lent_to, piece_at}
 use Rattle.unit_table.specs.declared.mark.Mark.TheVariants as mark
 use Rattle.unit_table.specs.declared.piece.Piece.{Piece}
 use Rattle.unit_table.specs.declared.piece.Piece.TheVariants as piece
@@ -214,6 +214,18 @@ unit-drops name x old new there dropped unlent = record {
         on : (c : Bool) → same_name q name ≡ c → cond c None (Some q) ≡ cond (is_gone old new q) None (Some q)
         on true e = ap (λ k. cond k None (Some q)) (sym (ap (is_gone old new) (same_name-equal q name e) ∙ ap₂ (λ a b. is_some a && not (is_some b)) there here))
         on false e = ap (λ k. cond k None (Some q)) (sym (ap (λ b. is_some (piece_at old q) && not (is_some b)) (dropped.others q (not-same q name e)) ∙ stays (is_some (piece_at old q))))
+
+-- it stays gone where the same stands and the same is lent
+pub unit-still : (name : Name) (old mid new : Board) → IsUnitGone name old mid → SamePieces mid new → SameClaims mid new → IsUnitGone name old new
+unit-still name old mid new gone pieces claims = record {
+  here = pieces name ∙ gone.here;
+  others = λ other apart. pieces other ∙ gone.others other apart;
+  claims = λ t. claims.to t ∙ gone.claims t ∙ ends (lent_to old t);
+}
+  where
+    ends : (found : Option Name) → but_gone (is_gone old mid) found ≡ but_gone (is_gone old new) found
+    ends None = refl
+    ends (Some q) = ap (λ b. cond (is_some (piece_at old q) && not (is_some b)) None (Some q)) (sym (pieces q))
 
 -- nothing is dropped where no unit is
 pub no-unit-drops : (name : Name) (b : Board) → unit_gone (piece_at b name) ≡ piece_at b name → IsUnitGone name b b

@@ -6,7 +6,7 @@ ghost use Rattle.turns_ahead.specs.Leading.{ahead_of};
 ghost use Rattle.value_core.specs.Named.{each_as};
 ghost use Rattle.world_steps.specs.Kept.{shared_of};
 
-use attempts_gone::drop_attempt;
+use attempts_gone::{drop_attempt, forget_tasks};
 use std::collections::BTreeMap;
 use task_fork_join::Tree;
 use turns_ahead::TurnAhead;
@@ -37,13 +37,14 @@ fn drop_turn(kept: &mut Kept, turn: &Name)
     drop_unit(&mut kept.units, turn);
 }
 
-/// The attempt of the unit is gone with its tasks, where it has one. It takes no memory.
+/// The attempt of the unit is gone with its tasks and their places, where it has one. It takes no memory.
 pub(crate) fn drop_tried(attempts: &mut BTreeMap<Name, Tree>, units: &mut Units, name: &Name)
     ensures gone { IsTriedGone name.now attempts.old.entries units.old attempts.new.entries units.new }
     ensures fewer { length attempts.new.entries ≤ length attempts.old.entries }
 {
     if let Some(_) = find(attempts, name) {
-        drop_attempt(attempts, units, name);
+        let tasks = drop_attempt(attempts, units, name);
+        forget_tasks(units, tasks);
     }
 }
 
@@ -54,11 +55,12 @@ fn drop_ahead(aheads: &mut BTreeMap<Name, TurnAhead>, name: &Name)
     let _turn = aheads.remove(name);
 }
 
-/// The unit of that name is gone, where it is one.
+/// The unit of that name is gone with its place, where it is one.
 fn drop_unit(units: &mut Units, name: &Name)
     ensures { IsUnitGone name.now units.old units.new }
 {
     if let Some(Piece::Unit(_)) = units.piece(name) {
         units.mark(name, Mark::Dropped);
+        units.forget(name);
     }
 }

@@ -1,14 +1,17 @@
 -- Tasks that go, one after another.
-use Rattle.std.proofs.Common.{◌≡◌, ◌∙◌, Bool, true, false, cond, List, [], ◌∷◌, refl, sym, ap}
-use Rattle.std.specs.Prelude.{None, Option, Some, ◌&&◌, ◌||◌}
-use Rattle.attempts_gone.specs.Dropping.{AreLeft, IsTaskGone, TasksGone}
+use Rattle.std.proofs.Common.{◌≡◌, ◌∙◌, ◌<◌, Bool, true, false, cond, suc, length, List, [], ◌∷◌, le_refl, le_trans, refl, sym, ap, subst}
+use Rattle.std.specs.Prelude.{IfNone, IfSome, None, Option, Some, ◌&&◌, ◌||◌}
+use Rattle.attempts_gone.specs.Dropping.{AreLeft, IsTaskGone, IsUndone, TasksGone, names_from}
 use Rattle.shared_world.specs.rows.Pieces.{but_gone, is_task, task_gone}
-use Rattle.unit_table.specs.Board.{Board, lent_to, piece_at}
+use Rattle.task_fork_join.specs.Attempt.{Attempt, names_in}
+use Rattle.task_fork_join.specs.Following.{names_after}
+use Rattle.task_fork_join.specs.declared.task.Task.{Task}
+use Rattle.unit_table.specs.Board.{Board, SameClaims, SamePieces, lent_to, piece_at}
 use Rattle.unit_table.specs.declared.piece.Piece.{Piece}
 use Rattle.unit_table.specs.declared.piece.Piece.TheVariants as piece
 use Rattle.value_core.proofs.NamedLaws.{same_name-equal, same_name-itself}
 use Rattle.value_core.specs.declared.ticket.Ticket.{Ticket}
-use Rattle.value_core.specs.Named.{Name, is_among, same_name}
+use Rattle.value_core.specs.Named.{Name, Named, is_among, same_name}
 
 gone-once : (p : Option Piece) (c : Bool) → cond c (task_gone (task_gone p)) (task_gone p) ≡ task_gone p
 gone-once p false = refl
@@ -72,3 +75,39 @@ all_gone all left first new is are = record {
     same : (found : Option Name) → found ≡ but_gone (λ q. false) found
     same None = refl
     same (Some q) = refl
+
+-- ---- the names of the tasks, one after another
+-- the next of the tasks, and those that come after it
+pub from_next : (after found : Option Name) (tasks : Named Task) → IfSome found (λ n. names_after after tasks ≡ n ∷ names_after (Some n) tasks) → IfNone found (names_after after tasks ≡ []) → names_from found tasks ≡ names_after after tasks
+from_next after (Some n) tasks some none = sym some
+from_next after None tasks some none = sym none
+
+all_come : (tasks : Named Task) → names_after None tasks ≡ names_in tasks
+all_come [] = refl
+all_come (e ∷ es) = ap (λ ns. e.0 ∷ ns) (all_come es)
+
+-- at first all are left
+pub all_left : (tasks : Named Task) (b : Board) (next : Option Name) → names_from next tasks ≡ names_after None tasks → AreLeft (names_in tasks) (names_from next tasks) b b
+all_left tasks b next is = subst (λ ns. AreLeft (names_in tasks) ns b b) (sym (is ∙ all_come tasks)) (record { pieces = λ n. refl; claims = λ t. refl })
+
+-- one less is left
+pub shorter : (now before rest : List Name) (n : Name) → now ≡ rest → before ≡ n ∷ rest → length now < length before
+shorter now before rest n is was = subst (λ ns. length ns < length before) (sym is) (subst (λ ns. length rest < length ns) (sym was) (le_refl (suc (length rest))))
+
+-- ---- what no piece and no claim shows
+pub same_after : (one two three : Board) → SameClaims one two → SameClaims two three → SameClaims one three
+same_after one two three first second = record {
+  lent = λ q. second.lent q ∙ first.lent q;
+  to = λ t. second.to t ∙ first.to t;
+  later = λ slot. le_trans (first.later slot) (second.later slot);
+}
+
+-- tasks that are gone stay so where the same stands and the same is lent
+pub undone_still : (owner : Name) (attempts left : Named Attempt) (board mid after : Board) → IsUndone owner attempts board left mid → SamePieces mid after → SameClaims mid after → IsUndone owner attempts board left after
+undone_still owner attempts left board mid after undone pieces claims = record {
+  gone = undone.gone;
+  tasks = λ tree is. record {
+    pieces = λ n. pieces n ∙ (undone.tasks tree is).pieces n;
+    claims = λ t. claims.to t ∙ (undone.tasks tree is).claims t;
+  };
+}

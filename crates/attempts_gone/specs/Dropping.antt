@@ -1,9 +1,11 @@
 -- Attempts that are gone, and their tasks.
-use Rattle.std.specs.Prelude.{◌≡◌, ◌&&◌, List, Some, cond}
+use Rattle.std.specs.Prelude.{◌≡◌, ◌&&◌, List, [], ◌∷◌, Option, None, Some, cond}
 use Rattle.shared_world.specs.rows.Attempts.{IsWithout}
 use Rattle.shared_world.specs.rows.Pieces.{but_gone, is_task, task_gone}
 use Rattle.shared_world.specs.Shared.{Shared}
 use Rattle.task_fork_join.specs.Attempt.{Attempt, names_in}
+use Rattle.task_fork_join.specs.Following.{names_after}
+use Rattle.task_fork_join.specs.declared.task.Task.{Task}
 use Rattle.unit_table.specs.Board.{Board, lent_to, piece_at, unit_at}
 use Rattle.unit_table.specs.declared.unit.Unit.{Unit}
 use Rattle.value_core.specs.declared.ticket.Ticket.{Ticket}
@@ -36,3 +38,8 @@ pub record HasAttempt (s : Shared) (owner : Name) : Type 0 where
 pub record IsUndone (owner : Name) (attempts : Named Attempt) (board : Board) (left : Named Attempt) (after : Board) : Type 0 where
   pub gone : IsWithout owner attempts left
   pub tasks : (tree : Attempt) → named owner attempts ≡ Some tree → TasksGone (names_in tree.tasks) board after
+
+-- the name and those of the tasks that come after it
+abbrev pub names_from : Option Name → Named Task → List Name
+names_from None tasks = []
+names_from (Some name) tasks = name ∷ names_after (Some name) tasks

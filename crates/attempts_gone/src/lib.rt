@@ -4,5 +4,5 @@
 mod dropping;
 mod snapshots;
 
-pub use dropping::{drop_attempt, prune};
+pub use dropping::{drop_attempt, forget_tasks, prune};
 pub use snapshots::room_for_snapshots;

@@ -1,3 +1,4 @@
 pub mod Crossing
+pub mod Idle
 pub mod Ready
 pub mod Worlds

@@ -1,6 +1,7 @@
 // What can be claimed.
 ghost use Rattle.std.specs.Prelude.{◌≡◌, ◌↔◌, IfNone, IfOk, IfSome, IsErrOf, OnErr, false, true};
 ghost use Rattle.std.specs.Option.{option_copied};
+ghost use Rattle.interleave_core.specs.Idle.{IsClaimOut};
 ghost use Rattle.lent_pieces.specs.Claims.{IsClaimOn};
 ghost use Rattle.world_steps.specs.Kept.{shared_of, IsSameBut};
 ghost use Rattle.run_end.specs.Over.{IsIdle, IsRunOver};
@@ -19,7 +20,8 @@ use value_core::Name;
 use world_claim::Claim;
 use world_steps::Kept;
 
-/// A claim on a piece that is ready, whichever it is. Whether the run is over is looked at only where nothing is.
+/// A claim on a piece that is ready, whichever it is. Whether the run is over is looked at only where nothing is; where it is not, a
+/// claim is out.
 pub(crate) fn claim_any(kept: &mut Kept, alloc: Global) -> Result<Claim, ClaimNo>
     requires stands { Stands (shared_of kept.old) }
     requires marks { HasMarks (shared_of kept.old) }
@@ -27,8 +29,10 @@ pub(crate) fn claim_any(kept: &mut Kept, alloc: Global) -> Result<Claim, ClaimNo
     ensures ready { IfOk result (λ claim. ready (shared_of kept.old) claim.piece ≡ true) }
     ensures over { IsErrOf result no.Over ↔ IsRunOver (shared_of kept.old) }
     ensures idle { IsErrOf result no.Idle ↔ IsIdle (shared_of kept.old) }
+    ensures out { IsErrOf result no.Idle → IsClaimOut (shared_of kept.old) }
     ensures same { OnErr result (IsSameBut (shared_of kept.old) (shared_of kept.new)) }
 {
+    kept.units.claims_are_tied();
     let name = match first_ready(kept) {
         Some(name) => name.copy(alloc)?,
         None if is_over(kept) => return Err(ClaimNo::Over),

@@ -8,6 +8,7 @@ ghost use Rattle.run_end.specs.InTurn.{GoesInTurn};
 ghost use Rattle.world_steps.specs.Kept.{IsSameBut};
 ghost use Rattle.run_end.specs.Over.{IsIdle, IsOverWith, IsRunOver};
 ghost use Rattle.interleave_core.specs.declared.error.ClaimNo.TheVariants as no;
+ghost use Rattle.interleave_core.specs.Idle.{IsClaimOut};
 ghost use Rattle.interleave_core.specs.declared.error.NamedNo.TheVariants as named;
 ghost use Rattle.serial_model.specs.declared.end.End.{End as Ending};
 ghost use Rattle.shared_world.specs.declared.given.Given.TheVariants as answers;
@@ -74,13 +75,14 @@ impl World {
 
     /// A claim on a piece that is ready, whichever it is. It lends the machine that is kept of the piece, under a ticket that was
     /// never given out, and changes nothing else. `Over` comes exactly where the run is over, that is where an end is set or no
-    /// entry is enabled in the state that the history replays to; `Idle` exactly where it is not and nothing is ready. After a
-    /// refusal nothing has changed.
+    /// entry is enabled in the state that the history replays to; `Idle` exactly where it is not and nothing is ready, and then a
+    /// claim is out. After a refusal nothing has changed.
     pub fn claim(&mut self, alloc: Global) -> Result<Claim, ClaimNo>
         ensures claim { IfOk result (λ claim. IsClaimOn claim.piece self.old claim self.new) }
         ensures ready { IfOk result (λ claim. ready self.old claim.piece ≡ true) }
         ensures over { IsErrOf result no.Over ↔ IsRunOver self.old }
         ensures idle { IsErrOf result no.Idle ↔ IsIdle self.old }
+        ensures out { IsErrOf result no.Idle → IsClaimOut self.old }
         ensures same { OnErr result (IsSameBut self.old self.new) }
     {
         claim_any(&mut self.kept, alloc)

@@ -1,10 +1,10 @@
 -- What the pieces are to actors.
-use Rattle.std.proofs.Common.{◌≡◌, ◌∙◌, Bool, true, false, cond, refl, sym, ap, subst}
+use Rattle.std.proofs.Common.{◌≡◌, ◌∙◌, Bool, true, false, cond, refl, sym, ap}
 use Rattle.std.specs.Option.{option_and_then, option_map}
 use Rattle.std.specs.Prelude.{Option, None, Some}
 use Rattle.serial_model.specs.declared.actor_state.ActorState.{ActorState}
 use Rattle.serial_model.specs.State.{UnitState}
-use Rattle.shared_world.specs.rows.Actors.{mark_roused, roused, roused_unless}
+use Rattle.shared_world.specs.rows.Actors.{roused, roused_unless}
 use Rattle.shared_world.specs.rows.Pieces.{IsSet, task_gone}
 use Rattle.shared_world.specs.Shared.{state_at, unit_state}
 use Rattle.unit_table.specs.Board.{Board, IsPutAt, SamePieces, actor_at, piece_at}
@@ -14,7 +14,6 @@ use Rattle.unit_table.specs.declared.mark.Work.TheVariants as work
 use Rattle.unit_table.specs.declared.piece.Actor.{Actor}
 use Rattle.unit_table.specs.declared.piece.Piece.{Piece}
 use Rattle.unit_table.specs.declared.piece.Piece.TheVariants as piece
-use Rattle.unit_table.specs.declared.unit.Unit.{Unit}
 use Rattle.unit_table.specs.Piece.{actor_in, awaited, beside, is_for, says_finished, unit_in, with_mark, woken}
 use Rattle.value_core.proofs.NamedLaws.{same_name-equal, same_name-itself}
 use Rattle.value_core.specs.Named.{Name, same_name}

@@ -1,5 +1,5 @@
 -- What an answer does to the attempts, and how often those of a unit are undone.
-use Rattle.std.proofs.Common.{◌≡◌, ◌∙◌, ℕ, ◌+◌, ◌<◌, ◌≤◌, suc, true, false, Bool, cond, List, [], ◌∷◌, ◌++◌, length, length-append, le_refl, refl, sym, ap, ap₂, subst, arith, ◌⊎◌, inl, inr}
+use Rattle.std.proofs.Common.{◌≡◌, ◌∙◌, ℕ, ◌+◌, ◌<◌, ◌≤◌, suc, true, false, Bool, cond, List, length, length-append, le_refl, refl, sym, ap, subst, arith, ◌⊎◌, inl, inr}
 use Rattle.std.specs.Option.{option_and_then}
 use Rattle.std.specs.Prelude.{Option, None, Some, ◌==◌}
 use Rattle.eval_step.specs.Evaluation.{Evaluation}
@@ -29,12 +29,12 @@ use Rattle.shared_world.specs.Gave.{Gave, GaveTask, GaveUnit}
 use Rattle.shared_world.specs.Later.{IsLater}
 use Rattle.shared_world.specs.Opening.{IsOpening}
 use Rattle.shared_world.specs.Returned.{Returned, halt_of}
-use Rattle.shared_world.specs.rows.Attempts.{Begins, IsWithout}
+use Rattle.shared_world.specs.rows.Attempts.{IsWithout}
 use Rattle.shared_world.specs.rows.Pieces.{EndsBy, Settles}
 use Rattle.shared_world.specs.rows.Sending.{sends_in}
 use Rattle.shared_world.specs.rows.Tasks as row
 use Rattle.shared_world.specs.rows.Tasks.{AfterStep, EndGives, Missing, RootGives, StepGives, TaskGives, WaitsForTurn, outer_of}
-use Rattle.shared_world.specs.rows.Turns.{GaveActor, TakesIfAllowed}
+use Rattle.shared_world.specs.rows.Turns.{TakesIfAllowed}
 use Rattle.shared_world.specs.rows.Undoing.{Aborts, root_gone}
 use Rattle.shared_world.specs.Laws.{IsTried}
 use Rattle.shared_world.specs.rows.Units.{Becomes, Derefs, Finishes, ForksIfAllowed, Joins, Selves, Tries, UnitGives}
@@ -55,7 +55,7 @@ use Rattle.unit_table.specs.Board.{unit_at}
 use Rattle.unit_table.specs.declared.unit.Unit.{Unit}
 use Rattle.value_core.proofs.NamedLaws.{named-here, named-with_named, same_name-equal, same_name-itself}
 use Rattle.value_core.specs.declared.value.Value.{Value}
-use Rattle.value_core.specs.Named.{Name, Named, named, same_name, with_named}
+use Rattle.value_core.specs.Named.{Name, named, same_name, with_named}
 
 -- no attempt is undone by the answer
 abbrev Undoes-none : Given → Type 0

@@ -1,7 +1,7 @@
 -- An attempt whose root is at its end keeps what is kept standing: it commits, or ends the run.
 use Rattle.std.proofs.Common.{◌≡◌, ◌∙◌, ◌≤◌, ℕ, suc, Bool, true, false, cond, drop, length, length-append, List, [], ◌∷◌, ◌++◌, inr, refl, sym, ap, ap₂, subst, arith}
 use Rattle.std.specs.Option.{option_and_then, option_map, option_or}
-use Rattle.std.specs.Prelude.{Option, None, Some, All, Contains, IfSome, map}
+use Rattle.std.specs.Prelude.{Option, None, Some, All, Contains, IfSome}
 use Rattle.actor_mailbox.specs.declared.message.Message.{Message}
 use Rattle.actor_mailbox.specs.Messages.{settle, settle_one}
 use Rattle.actor_mails.specs.Mails.{mail_at}
@@ -26,7 +26,7 @@ use Rattle.shared_world.proofs.Gone.{SeenAs, go-actors, go-machines, go-same, no
 use Rattle.shared_world.proofs.Lists.{among-contains, named-among, names_of, none-there, over-read, values-all, values-so, values_of}
 use Rattle.shared_world.proofs.Leading.{finished-is-level, leads-apart, level-there, live_on, seen-here, seen-same, ahead-still}
 use Rattle.shared_world.proofs.Live.{state-there}
-use Rattle.shared_world.proofs.Posted.{kept-seen, kept-so}
+use Rattle.shared_world.proofs.Posted.{kept-seen}
 use Rattle.shared_world.proofs.Standing.{Grows, ref-committed, root-in, under-way}
 use Rattle.shared_world.proofs.States.{machines-same, same-pieces}
 use Rattle.shared_world.specs.declared.given.Given.{Given}
@@ -57,7 +57,6 @@ use Rattle.value_core.specs.declared.value.Value.{Value}
 use Rattle.value_core.specs.Named.{Name, Named, Rises, is_among, named, same_name}
 use Rattle.value_core.specs.Place.{Spot}
 use Rattle.world_model.proofs.Kept.{gave-keeps}
-use Rattle.world_model.proofs.lists.Lists.{map-append, settle-tentative}
 use Rattle.world_model.specs.Gave as row
 use Rattle.world_model.specs.IsWorld.{IsWorld}
 use Rattle.world_model.specs.rows.Attempts.{Learns, learned, with_attempt}
@@ -67,7 +66,7 @@ use Rattle.world_model.specs.rows.Endings.{EndsRun, ended_by}
 use Rattle.world_model.specs.StandsFor.{AttemptStands, IsAttempt, IsEnd}
 use Rattle.world_model.specs.World as world
 use Rattle.world_model.specs.World.{AttemptEnd, LiveUnit, World, attempt_sends, held_sends, line, still, with_at}
-use Rattle.world_model.specs.Message.{settled, tentative, unsettled}
+use Rattle.world_model.specs.Message.{unsettled}
 use Rattle.serial_model.specs.Log.{Log}
 use Rattle.unit_table.specs.Piece.{unit_in}
 

@@ -1,23 +1,18 @@
 -- An attempt that is gone, with its tasks, leaves what is kept standing.
-use Rattle.std.proofs.Common.{◌≡◌, ◌∙◌, ℕ, suc, Bool, true, false, cond, length, le_refl, List, [], ◌∷◌, ◌++◌, refl, sym, ap, subst}
+use Rattle.std.proofs.Common.{◌≡◌, ◌∙◌, Bool, true, false, cond, List, refl, sym, ap, subst}
 use Rattle.std.specs.Option.{option_and_then, option_map}
 use Rattle.std.specs.Prelude.{Option, None, Some, is_some}
-use Rattle.actor_mailbox.specs.declared.message.Message.{Message}
-use Rattle.ref_store.proofs.StoreLaws.{above_pruned}
 use Rattle.ref_store.specs.declared.version.Version.{Version}
 use Rattle.serial_model.specs.State.{UnitState}
 use Rattle.shared_world.proofs.ActorPieces.{SameActors, actor_of_piece, gone-actor, not-same, unit-no-actor}
-use Rattle.shared_world.proofs.Leading.{live_on, seen-same, ahead-still}
 use Rattle.shared_world.proofs.Live.{state-there}
-use Rattle.shared_world.proofs.Standing.{under-way}
-use Rattle.shared_world.proofs.States.{EachMachine, SameStates, gone-same}
+use Rattle.shared_world.proofs.States.{EachMachine, gone-same}
 use Rattle.shared_world.proofs.Versions.{now-kept, reads-kept}
-use Rattle.shared_world.specs.declared.given.Given.{Given}
 use Rattle.shared_world.specs.rows.Attempts.{ArePrunedFor, IsWithout, TasksGo}
 use Rattle.shared_world.specs.rows.Pieces.{task_gone}
 use Rattle.shared_world.specs.Seen.{AttemptSeen, IsSeenAttempt}
 use Rattle.shared_world.specs.Shared.{Shared, is_going, ref_now, state_at, unit_state}
-use Rattle.shared_world.specs.Stands.{IsMachine, Stands}
+use Rattle.shared_world.specs.Stands.{Stands}
 use Rattle.task_fork_join.specs.Attempt.{Attempt}
 use Rattle.txn_snapshot.specs.SnapshotAnswer.{snapshot_of}
 use Rattle.unit_table.specs.Board.{Board, actor_at, piece_at, unit_at}
@@ -27,18 +22,8 @@ use Rattle.unit_table.specs.declared.unit.Unit.{Unit}
 use Rattle.unit_table.specs.Piece.{unit_in}
 use Rattle.value_core.proofs.NamedLaws.{same_name-equal, same_name-itself}
 use Rattle.value_core.specs.Named.{Name, Named, named, same_name}
-use Rattle.world_model.proofs.Kept.{gave-keeps}
-use Rattle.world_model.proofs.lists.Lists.{each-left, each-right, without-others}
-use Rattle.world_model.proofs.records.Names.{maker, no-unit-of-root, root}
-use Rattle.serial_model.proofs.runs.LastTurns.{replay-sounder}
-use Rattle.world_model.specs.Dependence as depends
-use Rattle.world_model.specs.Dependence.{DependsOn}
-use Rattle.world_model.specs.Gave as row
-use Rattle.world_model.specs.rows.Undone.{undone, unless_gone}
-use Rattle.world_model.specs.StandsFor.{AttemptStands}
 use Rattle.world_model.specs.World as world
 use Rattle.world_model.specs.World.{LiveUnit, World, line}
-use Rattle.actor_mailbox.specs.Messages.{passes}
 use Rattle.eval_step.specs.Evaluation.{Evaluation}
 
 -- the pieces, as the meaning sees them, once the tasks are gone

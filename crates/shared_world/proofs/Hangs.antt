@@ -1,21 +1,19 @@
 -- What hangs on others: whose a root is, and who has sent what depends on a name.
-use Rattle.std.proofs.Common.{◌≡◌, ◌∙◌, true, List, [], ◌∷◌, ◌++◌, map, refl, sym, ap, subst}
+use Rattle.std.proofs.Common.{◌≡◌, ◌∙◌, true, List, [], ◌∷◌, map, refl, sym, ap, subst}
 use Rattle.std.specs.Option.{option_map}
 use Rattle.std.specs.Prelude.{Option, None, Some}
 use Rattle.actor_mailbox.specs.declared.message.Message.{Message}
 use Rattle.serial_model.proofs.runs.LastTurns.{replay-sounder}
 use Rattle.serial_model.proofs.runs.Made.{IsMade}
 use Rattle.serial_model.specs.declared.actor_state.ActorState.{ActorState}
-use Rattle.serial_model.specs.declared.effect.Effect.{Effect}
 use Rattle.serial_model.specs.Sends.{effects_to, sends_to}
 use Rattle.serial_model.specs.State.{State, UnitState}
-use Rattle.shared_world.proofs.Gone.{SeenAs, seen-as}
+use Rattle.shared_world.proofs.Gone.{seen-as}
 use Rattle.shared_world.specs.Ahead.{Ahead}
 use Rattle.shared_world.specs.Seen.{AttemptSeen, IsSeenAttempt, done_by_root, live_with}
 use Rattle.shared_world.specs.Shared.{Shared, is_going, state_at}
 use Rattle.shared_world.specs.Stands.{Stands}
 use Rattle.task_fork_join.specs.Attempt.{Attempt}
-use Rattle.value_core.specs.declared.value.Value.{Value}
 use Rattle.value_core.specs.Named.{Name, made_by, named}
 use Rattle.world_model.proofs.lists.Lists.{Each, each-append, each-map}
 use Rattle.world_model.proofs.records.Names.{maker, no-unit-of-root, root}

@@ -27,13 +27,13 @@ use Rattle.shared_world.specs.declared.given.Given.{Given}
 use Rattle.shared_world.specs.Gave as gave
 use Rattle.shared_world.specs.Gave.{Gave, GaveTask, GaveUnit, IsUnclaimed}
 use Rattle.shared_world.specs.Laws.{IsTried}
-use Rattle.shared_world.specs.Returned.{IsLive, Returned}
+use Rattle.shared_world.specs.Returned.{Returned}
 use Rattle.shared_world.specs.rows.Sending.{sends_in}
 use Rattle.shared_world.specs.rows.Tasks as row
 use Rattle.shared_world.specs.rows.Tasks.{AfterStep, Missing, RootGives, StepGives, TaskGives}
 use Rattle.shared_world.specs.rows.Units.{Tries}
 use Rattle.shared_world.specs.Seen.{done_by_root}
-use Rattle.shared_world.specs.Shared.{Shared, is_going, state_at, unit_state}
+use Rattle.shared_world.specs.Shared.{Shared, is_going, unit_state}
 use Rattle.shared_world.specs.Stands.{IsMachine, Stands}
 use Rattle.task_fork_join.specs.Attempt.{Attempt, end_at, machine_of}
 use Rattle.task_fork_join.specs.declared.stepped.Stepped.{Stepped}

@@ -1,5 +1,5 @@
 -- Which units run ahead of the history, and which stand where it left them.
-use Rattle.std.proofs.Common.{◌≡◌, ◌∙◌, Bool, true, false, List, refl, sym, ap, subst}
+use Rattle.std.proofs.Common.{◌≡◌, ◌∙◌, true, List, refl, sym, ap, subst}
 use Rattle.std.specs.Option.{option_and_then, option_map}
 use Rattle.std.specs.Prelude.{Option, None, Some}
 use Rattle.core_syntax.specs.declared.node_id.NodeId.{NodeId}
@@ -8,7 +8,6 @@ use Rattle.serial_model.specs.declared.halt.Halt.TheVariants as halt
 use Rattle.serial_model.specs.declared.request.Request.TheVariants as request
 use Rattle.serial_model.specs.State.{UnitState}
 use Rattle.serial_model.specs.Step.{next_of}
-use Rattle.shared_world.proofs.ActorPieces.{not-same}
 use Rattle.shared_world.specs.Ahead.{Ahead}
 use Rattle.shared_world.specs.Seen.{AttemptSeen, live_with}
 use Rattle.shared_world.specs.Shared.{Shared, finished_at, is_going, state_at}

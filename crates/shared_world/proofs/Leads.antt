@@ -30,7 +30,6 @@ use Rattle.shared_world.specs.Stands.{IsAheadAt, IsMachine, Stands}
 use Rattle.task_fork_join.specs.Attempt.{Attempt}
 use Rattle.txn_snapshot.specs.SnapshotAnswer.{snapshot_of}
 use Rattle.unit_table.specs.Board.{Board, IsPutAt, actor_at, piece_at, unit_at}
-use Rattle.unit_table.specs.declared.piece.Actor.{Actor}
 use Rattle.unit_table.specs.declared.piece.Piece.{Piece}
 use Rattle.unit_table.specs.declared.piece.Piece.TheVariants as piece
 use Rattle.unit_table.specs.declared.unit.Unit.{Unit}

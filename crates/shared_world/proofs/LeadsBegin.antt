@@ -1,5 +1,5 @@
 -- A turn that is begun ahead of the history keeps what is kept standing.
-use Rattle.std.proofs.Common.{◌≡◌, ◌∙◌, Bool, true, false, cond, length, le_refl, List, [], ◌∷◌, ◌++◌, refl, sym, ap, ap₂, subst, arith}
+use Rattle.std.proofs.Common.{◌≡◌, ◌∙◌, Bool, true, false, cond, length, le_refl, [], ◌∷◌, ◌++◌, refl, sym, ap, ap₂, subst, arith}
 use Rattle.std.specs.Option.{option_and_then, option_map}
 use Rattle.std.specs.Prelude.{Option, None, Some}
 use Rattle.actor_mails.specs.Mails.{mail_at}
@@ -10,7 +10,6 @@ use Rattle.shared_world.proofs.Leading.{ahead-still}
 use Rattle.shared_world.proofs.Live.{no-piece}
 use Rattle.shared_world.proofs.Standing.{stands-next}
 use Rattle.shared_world.proofs.States.{SameStates, machines-put, states-put, unit-put}
-use Rattle.actor_mailbox.specs.declared.message.Message.{Message}
 use Rattle.shared_world.specs.Ahead.{Ahead}
 use Rattle.shared_world.specs.declared.given.Given.{Given}
 use Rattle.shared_world.specs.rows.Leading.{GaveTentative, begun_by}

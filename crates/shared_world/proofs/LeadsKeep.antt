@@ -18,7 +18,6 @@ use Rattle.task_fork_join.specs.Attempt.{Attempt}
 use Rattle.unit_table.specs.Board.{unit_at}
 use Rattle.unit_table.specs.declared.mark.Work.{Work}
 use Rattle.unit_table.specs.declared.unit.Unit.{Unit}
-use Rattle.value_core.specs.declared.value.Value.{Value}
 use Rattle.value_core.specs.Named.{Name, named}
 
 module _ (old : Shared) (st : Stands old) (on_going : old.end ≡ None) (u : Name) (x : Unit) (there : unit_at old.board u ≡ Some x) (h : Ahead) (leads : named u old.aheads ≡ Some h) (found : Given) (new : Shared) where

@@ -25,7 +25,7 @@ use Rattle.shared_world.proofs.Live.{state-there, unit-piece}
 use Rattle.shared_world.proofs.MarkedActors.{actor-placed, actor-put, actor-sent, has-last, put-mark}
 use Rattle.shared_world.proofs.MarkedLeads.{changed-here, changed-others, holds-marked, open-ahead, settles-marked, settles-so, turn-no-task, waits-marked}
 use Rattle.shared_world.proofs.MarkedUnits.{begun-marked, ends-going, marked-put, no-attempt-of}
-use Rattle.shared_world.proofs.Marks.{AreMarkedBut, IsSameButActors, IsStill, but-one, but_actor, come-again, marked-actors, marked-same, SameRoot, same-root, same-task, still-ahead, task-again, unit-again}
+use Rattle.shared_world.proofs.Marks.{AreMarkedBut, IsSameButActors, IsStill, but-one, but_actor, come-again, marked-actors, marked-same, root-again, SameRoot, same-root, same-task, still-ahead, task-again, unit-again}
 use Rattle.shared_world.proofs.Takings.{IsTakenBy, none-taken, taken-by, takes-called, takes-taken}
 use Rattle.shared_world.specs.Ahead.{Ahead}
 use Rattle.shared_world.specs.declared.given.Given.{Given}
@@ -198,7 +198,8 @@ module _ (old : Shared) (st : Stands old) (all : AreMarked old) (to : Name) (mes
     task = is.task;
     among = is.among;
     hangs = is.hangs;
-    says = λ unended. task-again old base is.owner is.tree.tasks is.tree.tasks is.task m (λ e. still-ahead old base is.owner (aheads is.owner)) (λ f e. come-again old.board base.board is.tree.tasks is.task f (λ none. finished f ∙ none)) (is.says unended);
+    says = λ unended. task-again old base (ap (λ (s : Shared). s.setup) rest) is.owner is.tree.tasks is.tree.tasks is.task m (λ e. still-ahead old base is.owner (aheads is.owner)) (λ f e. come-again old.board base.board is.tree.tasks is.task f (λ none. finished f ∙ none)) (is.says unended);
+    decides = λ ended e root. root-again old base is.owner m is.hangs (λ waits. still-ahead old base is.owner (aheads is.owner)) (is.decides ended e root);
   }
 
   actor-was : (a : Name) (z : Actor) (c : Bool) → same_name a turn ≡ c → piece_at base.board a ≡ Some (piece.Actor z) → piece_at old.board a ≡ Some (piece.Actor z)
@@ -371,7 +372,8 @@ module _ (old : Shared) (st : Stands old) (all : AreMarked old) (on_going : old.
         task = is.task;
         among = is.among;
         hangs = is.hangs;
-        says = λ unended why. task-again mid begun-base is.owner is.tree.tasks is.tree.tasks is.task m (λ e. still-ahead mid begun-base is.owner refl) (λ f e come. come) (is.says unended);
+        says = λ unended why. task-again mid begun-base refl is.owner is.tree.tasks is.tree.tasks is.task m (λ e. still-ahead mid begun-base is.owner refl) (λ f e come. come) (is.says unended);
+        decides = λ ended e root. root-again mid begun-base is.owner m is.hangs (λ waits. still-ahead mid begun-base is.owner refl) (is.decides ended e root);
       };
       actors = λ b z at. busy-actors b z (same_name b a) refl at;
       pieces = λ v tree at n t among. let has = busy-marked.pieces v tree at n t among in record { mark = has.mark; there = has.there; of = has.of };

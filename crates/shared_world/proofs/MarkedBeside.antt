@@ -1,20 +1,15 @@
 -- The marks of all but the tasks of one attempt, which has taken a step.
 use Rattle.std.proofs.Common.{◌≡◌, ◌∙◌, ◌⊎◌, Bool, true, false, cond, inl, inr, refl, sym, ap, subst}
-use Rattle.std.specs.Option.{option_and_then, option_map}
-use Rattle.std.specs.Prelude.{Option, None, Some}
+use Rattle.std.specs.Prelude.{None, Some}
 use Rattle.actor_mails.specs.Mails.{mail_at}
-use Rattle.serial_model.specs.State.{UnitState}
-use Rattle.shared_world.proofs.Marks.{IsStill, SameRoot, come-again, same-root, same-settles, still-ahead, task-again, unit-again}
-use Rattle.shared_world.specs.Marks.{AreMarked, AreMarkedBeside, HasPiece, IsTaskOf, IsTaskPiece, IsYetToStand, UnitSays}
+use Rattle.shared_world.proofs.Marks.{IsStill, SameRoot, come-again, root-again, same-root, same-settles, still-ahead, task-again, unit-again}
+use Rattle.shared_world.specs.Marks.{AreMarked, AreMarkedBeside, HasPiece, IsTaskOf, IsTaskPiece, IsYetToStand}
 use Rattle.shared_world.specs.rows.Actors.{actor_mark, has_turn}
-use Rattle.shared_world.specs.Shared.{Shared, finished_at, unit_state}
+use Rattle.shared_world.specs.Shared.{Shared, finished_at}
 use Rattle.task_fork_join.specs.Attempt.{Attempt}
 use Rattle.task_fork_join.specs.declared.task.Task.{Task}
 use Rattle.unit_table.specs.Board.{Board, piece_at, unit_at}
 use Rattle.unit_table.specs.declared.mark.Mark.{Mark}
-use Rattle.unit_table.specs.declared.piece.Actor.{Actor}
-use Rattle.unit_table.specs.declared.piece.Piece.TheVariants as piece
-use Rattle.unit_table.specs.declared.unit.Unit.{Unit as Doing}
 use Rattle.value_core.proofs.NamedLaws.{same_name-equal, same_name-itself}
 use Rattle.value_core.specs.Named.{Name, named, same_name}
 
@@ -88,7 +83,8 @@ module _ (old : Shared) (marked : AreMarked old) (u : Name) (tree after : Attemp
     task = at.task;
     among = at.among;
     hangs = at.hangs;
-    says = λ unended. task-again old base at.owner at.tree.tasks at.tree.tasks at.task m (λ waits. still-ahead old base at.owner (ap (named at.owner) is.aheads)) (λ f waits. come-again old.board base.board at.tree.tasks at.task f (over f)) (at.says unended);
+    says = λ unended. task-again old base is.setup at.owner at.tree.tasks at.tree.tasks at.task m (λ waits. still-ahead old base at.owner (ap (named at.owner) is.aheads)) (λ f waits. come-again old.board base.board at.tree.tasks at.task f (over f)) (at.says unended);
+    decides = λ ended e root. root-again old base at.owner m at.hangs (λ waits. still-ahead old base at.owner (ap (named at.owner) is.aheads)) (at.decides ended e root);
   })
 
   stands : (v : Name) (some : Attempt) (n : Name) (t : Task) (c : Bool) → same_name v u ≡ c → cond c (Some after) (named v old.attempts) ≡ Some some → named n some.tasks ≡ Some t → (HasPiece base v n) ⊎ (IsYetToStand base u v n)

@@ -11,7 +11,7 @@ use Rattle.serial_model.specs.State.{UnitState}
 use Rattle.shared_world.proofs.Effects.{acted-unit, piece-state, unless_made}
 use Rattle.shared_world.proofs.MarkedActors.{NoneTaken, put-mark, roused-but, rouses-right}
 use Rattle.shared_world.proofs.MarkedAheads.{says-definite, settles-actor, settles-task, settles-unit}
-use Rattle.shared_world.proofs.Marks.{IsStill, SameRoot, but_actor, come-again, same-root, still-ahead, task-again, task-but, unit-again}
+use Rattle.shared_world.proofs.Marks.{IsStill, SameRoot, but_actor, come-again, root-again, same-root, still-ahead, task-again, task-but, unit-again}
 use Rattle.shared_world.specs.Ahead.{Ahead}
 use Rattle.shared_world.specs.Marks.{AreMarked, IsTaskPiece, UnitSays}
 use Rattle.shared_world.specs.rows.Actors.{acted, actor_mark, has_turn, spawned}
@@ -179,7 +179,8 @@ module _ (u : Name) (effects : List Effect) (tree : Attempt) (base s new : Share
     task = is.task;
     among = is.among;
     hangs = is.hangs;
-    says = λ unended. task-again s new is.owner is.tree.tasks is.tree.tasks is.task m (λ e. still-ahead s new is.owner (ap (named is.owner) aheads)) (λ f e. come-again s.board new.board is.tree.tasks is.task f (over f)) (is.says unended);
+    says = λ unended. task-again s new setup is.owner is.tree.tasks is.tree.tasks is.task m (λ e. still-ahead s new is.owner (ap (named is.owner) aheads)) (λ f e. come-again s.board new.board is.tree.tasks is.task f (over f)) (is.says unended);
+    decides = λ ended e root. root-again s new is.owner m is.hangs (λ waits. still-ahead s new is.owner (ap (named is.owner) aheads)) (is.decides ended e root);
   }
 
   -- ---- actors

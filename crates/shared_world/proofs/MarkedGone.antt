@@ -6,7 +6,7 @@ use Rattle.actor_mails.specs.Mails.{SameMail}
 use Rattle.serial_model.specs.State.{UnitState}
 use Rattle.shared_world.proofs.Besides.{apart-of}
 use Rattle.shared_world.proofs.Live.{unit-piece}
-use Rattle.shared_world.proofs.Marks.{ActorsAreMarked, IsStill, come-again, same-root, same-settles, SameRoot, still-ahead, task-again, unit-again}
+use Rattle.shared_world.proofs.Marks.{ActorsAreMarked, IsStill, come-again, root-again, same-root, same-settles, SameRoot, still-ahead, task-again, unit-again}
 use Rattle.shared_world.specs.Marks.{AreMarked, HasPiece, IsTaskPiece, UnitSays}
 use Rattle.shared_world.specs.rows.Actors.{actor_mark, has_turn}
 use Rattle.shared_world.specs.rows.Attempts.{TasksGo}
@@ -14,14 +14,13 @@ use Rattle.shared_world.specs.rows.Pieces.{task_gone}
 use Rattle.shared_world.specs.Shared.{Shared, finished_at, finished_by, unit_state}
 use Rattle.task_fork_join.specs.Attempt.{Attempt}
 use Rattle.task_fork_join.specs.declared.task.Task.{Task}
-use Rattle.unit_table.specs.Board.{Board, piece_at, unit_at}
+use Rattle.unit_table.specs.Board.{piece_at, unit_at}
 use Rattle.unit_table.specs.declared.mark.Mark.{Mark}
-use Rattle.unit_table.specs.declared.mark.Mark.TheVariants as mark
 use Rattle.unit_table.specs.declared.piece.Piece.{Piece}
 use Rattle.unit_table.specs.declared.piece.Piece.TheVariants as piece
 use Rattle.unit_table.specs.declared.unit.Unit.{Unit as Doing}
 use Rattle.unit_table.specs.Piece.{unit_in}
-use Rattle.value_core.proofs.NamedLaws.{same_name-equal, same_name-itself}
+use Rattle.value_core.proofs.NamedLaws.{same_name-equal}
 use Rattle.value_core.specs.declared.value.Value.{Value}
 use Rattle.value_core.specs.Named.{Name, named, same_name}
 
@@ -130,7 +129,8 @@ module _ (old new : Shared) (marked : AreMarked old) (u : Name) (x y : Doing) (t
         task = before.task;
         among = before.among;
         hangs = before.hangs;
-        says = λ unended. task-again old new before.owner before.tree.tasks before.tree.tasks before.task m (λ e. still-ahead old new before.owner (ap (named before.owner) is.aheads)) (λ f waits. come-again old.board new.board before.tree.tasks before.task f (over f)) (before.says unended);
+        says = λ unended. task-again old new is.setup before.owner before.tree.tasks before.tree.tasks before.task m (λ e. still-ahead old new before.owner (ap (named before.owner) is.aheads)) (λ f waits. come-again old.board new.board before.tree.tasks before.task f (over f)) (before.says unended);
+        decides = λ ended e root. root-again old new before.owner m before.hangs (λ waits. still-ahead old new before.owner (ap (named before.owner) is.aheads)) (before.decides ended e root);
       }
 
   actors : ActorsAreMarked new

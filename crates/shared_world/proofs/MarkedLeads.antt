@@ -8,11 +8,11 @@ use Rattle.serial_model.specs.State.{UnitState}
 use Rattle.shared_world.proofs.Besides.{apart-of}
 use Rattle.shared_world.proofs.Leads.{beside-unit}
 use Rattle.shared_world.proofs.Live.{unit-piece}
-use Rattle.shared_world.proofs.Marks.{AreMarkedBut, IsStill, IsTaskPieceBut, but-one, come-again, marked-set, SameRoot, same-root, same-settles, still-ahead, task-again, unfinished-mark, unit-again}
+use Rattle.shared_world.proofs.Marks.{AreMarkedBut, IsStill, IsTaskPieceBut, but-one, come-again, marked-set, root-again, SameRoot, same-root, same-settles, still-ahead, task-again, unfinished-mark, unit-again}
 use Rattle.shared_world.specs.Ahead.{Ahead}
 use Rattle.shared_world.specs.declared.given.Given.{Given}
 use Rattle.shared_world.specs.Marks as marks
-use Rattle.shared_world.specs.Marks.{AreMarked, HangsOn, HasPiece, IsRunningAhead, IsTaskPiece, TaskSays, UnitSays}
+use Rattle.shared_world.specs.Marks.{AreMarked, HangsOn, HasPiece, IsRunningAhead, IsTaskPiece, RootSays, TaskSays, UnitSays}
 use Rattle.shared_world.specs.rows.Actors.{actor_mark, has_turn}
 use Rattle.shared_world.specs.rows.Leading.{HoldsOn, IsChanged, LeadSettles, WaitsDefinite, beside_left, can_settle, is_definite, leads_on, mark_ahead, mark_definite, mark_left, settles_next}
 use Rattle.shared_world.specs.rows.Pieces.{IsSet}
@@ -224,6 +224,7 @@ module _ (old : Shared) (u : Name) (x : Doing) (at_u : unit_at old.board u ≡ S
       among = before.among;
       hangs = hangs was.is;
       says = λ unended. by was.is (before.says unended (λ e. cc));
+      decides = λ ended e root. decides was.is (before.decides ended e root);
     }
       where
         was : WasBeside u (leads_on left) (piece_at base.board n) m
@@ -242,10 +243,17 @@ module _ (old : Shared) (u : Name) (x : Doing) (at_u : unit_at old.board u ≡ S
         leads-still None true is e why ahead = absurd (why refl (same_name-equal before.owner u e))
         leads-still o false is e why ahead = still-ahead base new before.owner (changed-others u (leads_on left) base.aheads new.aheads g.aheads before.owner (apart-of before.owner u e)) ahead
 
+        leads-waits : (leads_on left ≡ None → was.before ≡ mark.Waiting (wait.Definite u) → ⊥) → was.before ≡ mark.Waiting (wait.Definite before.owner) → IsRunningAhead base before.owner → IsRunningAhead new before.owner
+        leads-waits why waits = leads-still (leads_on left) (same_name before.owner u) refl refl (λ none mine. why none (waits ∙ ap (λ q. mark.Waiting (wait.Definite q)) mine))
+
+        decides : ((m ≡ was.before) × (leads_on left ≡ None → was.before ≡ mark.Waiting (wait.Definite u) → ⊥)) ⊎ (m ≡ mark.Ready work.Settle) → RootSays base before.owner was.before → RootSays new before.owner m
+        decides (inl same) is = subst (RootSays new before.owner) (sym same.0) (root-again base new before.owner was.before before.hangs (leads-waits same.1) is)
+        decides (inr ready) is = subst (RootSays new before.owner) (sym ready) tt
+
         by : ((m ≡ was.before) × (leads_on left ≡ None → was.before ≡ mark.Waiting (wait.Definite u) → ⊥)) ⊎ (m ≡ mark.Ready work.Settle) → TaskSays base before.owner before.tree.tasks before.task was.before → TaskSays new before.owner before.tree.tasks before.task m
         by (inl same) is = subst (λ k. TaskSays new before.owner before.tree.tasks before.task k) (sym same.0)
-            (task-again base new before.owner before.tree.tasks before.tree.tasks before.task was.before
-            (λ waits. leads-still (leads_on left) (same_name before.owner u) refl refl (λ none mine. same.1 none (waits ∙ ap (λ q. mark.Waiting (wait.Definite q)) mine)))
+            (task-again base new setup before.owner before.tree.tasks before.tree.tasks before.task was.before
+            (leads-waits same.1)
             (λ f e. come-again base.board new.board before.tree.tasks before.task f (over f)) is)
         by (inr ready) is = subst (λ k. TaskSays new before.owner before.tree.tasks before.task k) (sym ready) tt
 

@@ -1,13 +1,10 @@
 -- How the marks are right where everything is back where the history left it.
-use Rattle.std.proofs.Common.{◌≡◌, ◌∙◌, ◌⊎◌, Bool, true, false, inl, inr, refl, sym, ap, ap₂, subst}
-use Rattle.std.specs.Option.{option_and_then, option_map}
+use Rattle.std.proofs.Common.{◌≡◌, ◌∙◌, false, inl, refl, sym, ap, ap₂, subst}
+use Rattle.std.specs.Option.{option_and_then}
 use Rattle.std.specs.Prelude.{◌||◌, Option, None, Some, is_some}
 use Rattle.actor_mails.specs.Mails.{mail_at}
-use Rattle.serial_model.specs.declared.halt.Halt.TheVariants as halt
-use Rattle.serial_model.specs.declared.request.Request.TheVariants as request
 use Rattle.serial_model.specs.State.{UnitState}
 use Rattle.serial_model.specs.Step.{next_of}
-use Rattle.shared_world.proofs.Marks.{unit-like}
 use Rattle.shared_world.proofs.Resetting.{anew-finished}
 use Rattle.shared_world.proofs.States.{state_of}
 use Rattle.shared_world.specs.Ahead.{Ahead}
@@ -18,7 +15,7 @@ use Rattle.shared_world.specs.rows.Leading.{can_settle, settles_next}
 use Rattle.shared_world.specs.rows.Resetting.{LeadBack, PieceBack, Resets, ResetsMark, UnitBack, mark_anew, mail_back}
 use Rattle.shared_world.specs.Shared.{Shared, finished_at, is_going, unit_state}
 use Rattle.task_fork_join.specs.Attempt.{Attempt}
-use Rattle.unit_table.specs.Board.{piece_at, unit_at}
+use Rattle.unit_table.specs.Board.{piece_at}
 use Rattle.unit_table.specs.declared.mark.Mark.{Mark}
 use Rattle.unit_table.specs.declared.mark.Mark.TheVariants as mark
 use Rattle.unit_table.specs.declared.mark.WaitOn.TheVariants as wait

@@ -1,28 +1,28 @@
 -- How the marks stay right where a task takes a step.
-use Rattle.std.proofs.Common.{◌≡◌, ◌∙◌, ◌⊎◌, Bool, true, false, cond, inl, inr, refl, sym, ap, ap₂, subst}
+use Rattle.std.proofs.Common.{◌≡◌, ◌∙◌, Bool, true, false, cond, refl, sym, ap, ap₂, subst}
 use Rattle.std.specs.Option.{option_and_then, option_map}
 use Rattle.std.specs.Prelude.{Option, None, Some, if◌then◌else◌}
 use Rattle.actor_mails.specs.Mails.{SameMail, mail_at}
 use Rattle.serial_model.specs.declared.halt.Halt.{Halt}
 use Rattle.serial_model.specs.State.{UnitState}
 use Rattle.shared_world.proofs.Besides.{apart-of}
-use Rattle.shared_world.proofs.Marks.{ActorsAreMarked, AreMarkedBut, IsStill, IsTaskPieceBut, come-again, same-root, same-settles, SameRoot, still-ahead, task-again, unit-again}
+use Rattle.shared_world.proofs.Marks.{ActorsAreMarked, AreMarkedBut, IsStill, IsTaskPieceBut, come-again, root-again, same-root, same-settles, SameRoot, still-ahead, task-again, unit-again}
 use Rattle.task_fork_join.proofs.StepShapes.{IsAfter, IsShaped}
 use Rattle.shared_world.specs.Marks as marks
-use Rattle.shared_world.specs.Marks.{AreMarked, HasPiece, IsRunningAhead, IsTaskPiece, IsToCome, TaskSays, UnitSays}
+use Rattle.shared_world.specs.Marks.{AreMarked, HasPiece, IsRunningAhead, IsTaskPiece, IsToCome, RootSays, TaskSays, UnitSays}
 use Rattle.shared_world.specs.rows.Actors.{actor_mark, has_turn}
 use Rattle.shared_world.specs.Shared.{Shared, finished_at, unit_state}
-use Rattle.task_fork_join.specs.Attempt.{Attempt, end_at}
+use Rattle.task_fork_join.specs.Attempt.{Attempt, end_at, end_by, end_of}
 use Rattle.task_fork_join.specs.declared.stepped.Stepped.{Stepped}
 use Rattle.task_fork_join.specs.declared.stepped.Stepped.TheVariants as stepped
 use Rattle.task_fork_join.specs.declared.task.Task.{Task}
+use Rattle.task_fork_join.specs.declared.task_end.TaskEnd.{TaskEnd}
 use Rattle.task_fork_join.specs.Joining.{IsGoing}
-use Rattle.unit_table.specs.Board.{Board, piece_at, unit_at}
+use Rattle.unit_table.specs.Board.{piece_at, unit_at}
 use Rattle.unit_table.specs.declared.mark.Mark.{Mark}
 use Rattle.unit_table.specs.declared.mark.Mark.TheVariants as mark
 use Rattle.unit_table.specs.declared.mark.WaitOn.TheVariants as wait
 use Rattle.unit_table.specs.declared.mark.Work.TheVariants as work
-use Rattle.unit_table.specs.declared.piece.Actor.{Actor}
 use Rattle.unit_table.specs.declared.piece.Piece.{Piece}
 use Rattle.unit_table.specs.declared.piece.Piece.TheVariants as piece
 use Rattle.unit_table.specs.declared.unit.Unit.{Unit as Doing}
@@ -30,7 +30,12 @@ use Rattle.unit_table.specs.Piece.{unit_in}
 use Rattle.value_core.proofs.NamedLaws.{named-with_named, same_name-equal, same_name-itself}
 use Rattle.value_core.specs.declared.value.Value.{Value}
 use Rattle.task_fork_join.specs.Knowledge.{is_known}
-use Rattle.value_core.specs.Named.{Name, Named, named, same_name, with_named}
+use Rattle.value_core.specs.Named.{Name, named, same_name, with_named}
+
+-- what is no end is none
+pub none-by : (escape : TaskEnd) (o : Option TaskEnd) → end_by escape o ≡ None → o ≡ None
+none-by escape None e = refl
+none-by escape (Some ended) e = cc
 
 -- whether the step ends the task
 abbrev pub says_ended : Stepped → Bool
@@ -135,27 +140,43 @@ module _ (old new : Shared) (marked : AreMarked old) (u task : Name) (tree after
 
   -- what another task waits for is still to come, unless it is this one and the step ends it
   to-come : (t : Task) (f : Name) → (says_ended went ≡ true → f ≡ task → ⊥) → IsToCome old.board tree.tasks t f → IsToCome new.board after.tasks t f
-  to-come t f why is = on (same_name f task) refl
+  to-come t f why (marks.task known waited is going) = on (same_name f task) refl
     where
       at-task : (c : Bool) → says_ended went ≡ c → f ≡ task → IsToCome new.board after.tasks t f
       at-task true e same = absurd (why e same)
-      at-task false e same = marks.task shape.after (ap (λ q. named q after.tasks) same ∙ shape.here) (goes-on went refl e)
+      at-task false e same = marks.task known shape.after (ap (λ q. named q after.tasks) same ∙ shape.here) (goes-on went refl e)
 
-      apart : (f ≡ task → ⊥) → IsToCome old.board tree.tasks t f → IsToCome new.board after.tasks t f
-      apart other (marks.task waited is going) = marks.task waited (stays (forks_it went f) refl) going
-        where
-          stays : (c : Bool) → forks_it went f ≡ c → named f after.tasks ≡ Some waited
-          stays true e = let has = marked.pieces u tree there f waited is in let no : None ≡ Some (piece.Task has.mark) = sym (child.none f e) ∙ has.there in cc
-          stays false e = shape.others f other (forked-not went f e) ∙ is
-      apart other (marks.unit unknown none) = by (forks_it went f) refl
-        where
-          by : (c : Bool) → forks_it went f ≡ c → IsToCome new.board after.tasks t f
-          by true e = let begun = shape.child f (forked-so went f e) other in marks.task begun.task begun.there begun.going
-          by false e = marks.unit (ap (λ found. if is_known t.knows f then found else None) (shape.others f other (forked-not went f e)) ∙ unknown) (over f none)
+      stays : (f ≡ task → ⊥) → (c : Bool) → forks_it went f ≡ c → named f after.tasks ≡ Some waited
+      stays other true e = let has = marked.pieces u tree there f waited is in let no : None ≡ Some (piece.Task has.mark) = sym (child.none f e) ∙ has.there in cc
+      stays other false e = shape.others f other (forked-not went f e) ∙ is
 
       on : (c : Bool) → same_name f task ≡ c → IsToCome new.board after.tasks t f
       on true e = at-task (says_ended went) refl (same_name-equal f task e)
-      on false e = apart (apart-of f task e) is
+      on false e = marks.task known waited (stays (apart-of f task e) (forks_it went f) refl) going
+  to-come t f why (marks.unit unknown none) = by (is_known t.knows f) refl
+    where
+      none-there : is_known t.knows f ≡ true → named f tree.tasks ≡ None
+      none-there known = sym (ap (λ c. if c then named f tree.tasks else None) known) ∙ unknown
+
+      other : is_known t.knows f ≡ true → f ≡ task → ⊥
+      other known same = let no : None ≡ Some there_task.0 = sym (none-there known) ∙ ap (λ q. named q tree.tasks) same ∙ there_task.1 in cc
+
+      -- where the task knows it, it is the child that was forked or none still
+      forked : is_known t.knows f ≡ true → (c : Bool) → forks_it went f ≡ c → IsToCome new.board after.tasks t f
+      forked known true e = let begun = shape.child f (forked-so went f e) (other known) in marks.task known begun.task begun.there begun.going
+      forked known false e = marks.unit (ap (λ c. if c then named f after.tasks else None) known ∙ shape.others f (other known) (forked-not went f e) ∙ none-there known) (over f none)
+
+      by : (c : Bool) → is_known t.knows f ≡ c → IsToCome new.board after.tasks t f
+      by false e = marks.unit (ap (λ c. if c then named f after.tasks else None) e) (over f none)
+      by true e = forked e (forks_it went f) refl
+
+  -- a root that took no step has not come to its end by it
+  root-open : (n : Name) → (n ≡ task → ⊥) → forks_it went n ≡ false → n ≡ after.root → end_at after ≡ None
+  root-open n other e is = ap (λ found. end_by after.escape (option_and_then (λ (t : Task). end_of t.stage) found)) same
+      ∙ ap (end_by after.escape) (none-by tree.escape (option_and_then (λ (t : Task). end_of t.stage) (named tree.root tree.tasks)) before)
+    where
+      same : named after.root after.tasks ≡ named tree.root tree.tasks
+      same = ap (λ q. named q after.tasks) (sym is) ∙ shape.others n other (forked-not went n e) ∙ ap (λ q. named q tree.tasks) (is ∙ root)
 
   -- a child that was forked
   begun-piece : (n : Name) (m : Mark) → (n ≡ task → ⊥) → forks_it went n ≡ true → piece_at new.board n ≡ Some (piece.Task m) → IsTaskPieceBut task ends new n m
@@ -171,6 +192,7 @@ module _ (old new : Shared) (marked : AreMarked old) (u task : Name) (tree after
         among = begun.there;
         hangs = λ turn waits. let no : mark.Ready work.Eval ≡ mark.Waiting (wait.Definite turn) = is ∙ waits in cc;
         says = λ unended why. subst (λ k. TaskSays new u after.tasks begun.task k) is begun.going;
+        decides = λ ended e at_root. subst (RootSays new u) is tt;
       }
 
   -- a task that was there
@@ -189,8 +211,9 @@ module _ (old new : Shared) (marked : AreMarked old) (u task : Name) (tree after
             task = is.task;
             among = shape.others n other (forked-not went n e) ∙ ap (λ (a : Attempt). named n a.tasks) (sym same) ∙ is.among;
             hangs = is.hangs;
-            says = λ unended why. task-again old new is.owner tree.tasks after.tasks is.task m (λ e. leads-still is.owner) (λ f waits come. to-come is.task f (λ ended here. why (ends_so unended ended) (waits ∙ ap (λ q. mark.Waiting (wait.Finish q)) here)) come)
+            says = λ unended why. task-again old new child.setup is.owner tree.tasks after.tasks is.task m (λ e. leads-still is.owner) (λ f waits come. to-come is.task f (λ ended here. why (ends_so unended ended) (waits ∙ ap (λ q. mark.Waiting (wait.Finish q)) here)) come)
                 (subst (λ (a : Attempt). TaskSays old is.owner a.tasks is.task m) same (is.says (ap end_at same ∙ before)));
+            decides = λ ended so at_root. let no : None ≡ Some ended = sym (root-open n other e at_root) ∙ so in cc;
           }
       on false o = record {
         owner = is.owner;
@@ -200,7 +223,8 @@ module _ (old new : Shared) (marked : AreMarked old) (u task : Name) (tree after
         task = is.task;
         among = is.among;
         hangs = is.hangs;
-        says = λ unended why. task-again old new is.owner is.tree.tasks is.tree.tasks is.task m (λ e. leads-still is.owner) (λ f waits. come-again old.board new.board is.tree.tasks is.task f (over f)) (is.says unended);
+        says = λ unended why. task-again old new child.setup is.owner is.tree.tasks is.tree.tasks is.task m (λ e. leads-still is.owner) (λ f waits. come-again old.board new.board is.tree.tasks is.task f (over f)) (is.says unended);
+        decides = λ ended e at_root. root-again old new is.owner m is.hangs (λ e. leads-still is.owner) (is.decides ended e at_root);
       }
 
   tasks : (n : Name) (m : Mark) (c : Bool) → forks_it went n ≡ c → (n ≡ task → ⊥) → piece_at new.board n ≡ Some (piece.Task m) → IsTaskPieceBut task ends new n m

@@ -1,5 +1,5 @@
 -- How the marks stay right where a unit does something.
-use Rattle.std.proofs.Common.{◌≡◌, ◌∙◌, ◌⊎◌, ◌==◌, Bool, true, false, cond, List, [], ◌∷◌, ◌++◌, refl, suc, sym, ap, ap₂, subst}
+use Rattle.std.proofs.Common.{◌≡◌, ◌∙◌, ◌==◌, Bool, true, false, cond, List, [], ◌++◌, refl, suc, sym, ap, ap₂, subst}
 use Rattle.std.specs.Option.{option_and_then, option_map}
 use Rattle.std.specs.Prelude.{Option, None, Some, ℕ}
 use Rattle.actor_mails.specs.Mails.{SameMail, mail_at}
@@ -15,7 +15,7 @@ use Rattle.shared_world.proofs.ActorPieces.{actor_of_piece}
 use Rattle.shared_world.proofs.Besides.{apart-of}
 use Rattle.shared_world.proofs.Live.{no-piece, unit-piece}
 use Rattle.shared_world.proofs.MarkedActors.{actor-placed, actor-sent, has-last}
-use Rattle.shared_world.proofs.Marks.{AreMarkedBut, IsRightSet, IsSameButActors, SameRoot, but-one, but_actor, come-again, marked-actors, marked-set, same-but, same-root, same-settles, same-task, still-ahead, unfinished-mark, task-again, unit-again}
+use Rattle.shared_world.proofs.Marks.{AreMarkedBut, IsSameButActors, SameRoot, but-one, but_actor, come-again, root-again, marked-actors, marked-set, same-but, same-root, same-settles, same-task, still-ahead, unfinished-mark, task-again, unit-again}
 use Rattle.shared_world.proofs.Standing.{root-in}
 use Rattle.shared_world.proofs.States.{unit-set}
 use Rattle.shared_world.proofs.Takings.{none-taken, turn-free}
@@ -33,7 +33,7 @@ use Rattle.shared_world.specs.Stands.{Stands}
 use Rattle.task_fork_join.specs.Attempt.{Attempt}
 use Rattle.task_fork_join.specs.declared.task.Task.{Task}
 use Rattle.task_fork_join.specs.Joining.{IsGoing}
-use Rattle.unit_table.specs.Board.{Board, IsPutAt, piece_at, unit_at}
+use Rattle.unit_table.specs.Board.{IsPutAt, piece_at, unit_at}
 use Rattle.unit_table.specs.declared.mark.Mark.{Mark}
 use Rattle.unit_table.specs.declared.mark.Mark.TheVariants as mark
 use Rattle.unit_table.specs.declared.mark.WaitOn.TheVariants as wait
@@ -43,7 +43,7 @@ use Rattle.unit_table.specs.declared.piece.Piece.{Piece}
 use Rattle.unit_table.specs.declared.piece.Piece.TheVariants as piece
 use Rattle.unit_table.specs.declared.unit.Unit.{Unit as Doing}
 use Rattle.unit_table.specs.Piece.{says_finished, unit_in}
-use Rattle.value_core.proofs.NamedLaws.{named-here, named-with_named, same_name-equal, same_name-itself}
+use Rattle.value_core.proofs.NamedLaws.{named-with_named, same_name-equal, same_name-itself}
 use Rattle.value_core.specs.declared.value.Value.{Value}
 use Rattle.value_core.specs.Named.{Name, named, same_name, with_named}
 use Rattle.value_core.specs.Place.{Spot}
@@ -112,7 +112,8 @@ module _ (old new : Shared) (all : AreMarked old) (c : Name) (child : Doing) (se
     task = is.task;
     among = is.among;
     hangs = is.hangs;
-    says = λ unended. task-again old new is.owner is.tree.tasks is.tree.tasks is.task m (λ w. still-ahead old new is.owner (aheads is.owner (owns is.owner is.tree is.attempt))) (λ f waits. come-again old.board new.board is.tree.tasks is.task f (over f)) (is.says unended);
+    says = λ unended. task-again old new setup is.owner is.tree.tasks is.tree.tasks is.task m (λ w. still-ahead old new is.owner (aheads is.owner (owns is.owner is.tree is.attempt))) (λ f waits. come-again old.board new.board is.tree.tasks is.task f (over f)) (is.says unended);
+    decides = λ ended e root. root-again old new is.owner m is.hangs (λ w. still-ahead old new is.owner (aheads is.owner (owns is.owner is.tree is.attempt))) (is.decides ended e root);
   }
 
   actors : (a : Name) (z : Actor) (b : Bool) → same_name a c ≡ b → piece_at new.board a ≡ Some (piece.Actor z) → z.mark ≡ actor_mark (has_turn new.taken a z.state) (mail_at new.mails a)
@@ -281,6 +282,7 @@ module _ (old : Shared) (all : AreMarked old) (u : Name) (x : Doing) (at_u : uni
         among = task-is n ∙ ap (λ c. cond c (Some task) None) e;
         hangs = λ turn waits. let no : mark.Ready work.Eval ≡ mark.Waiting (wait.Definite turn) = so ∙ waits in cc;
         says = λ unended. subst (λ k. marks.TaskSays s u r.tree.tasks task k) so (subst (λ g. IsGoing g) (sym r.fresh.new.alone.goes) tt);
+        decides = λ ended e at_root. subst (marks.RootSays s u) so tt;
       }
   begun-tasks n m false e is = on (same_name before.owner u) refl
     where
@@ -297,7 +299,8 @@ module _ (old : Shared) (all : AreMarked old) (u : Name) (x : Doing) (at_u : uni
         task = before.task;
         among = before.among;
         hangs = before.hangs;
-        says = λ unended. task-again old s before.owner before.tree.tasks before.tree.tasks before.task m (λ w. still-ahead old s before.owner refl) (λ f waits. come-again old.board r.board before.tree.tasks before.task f (begun f)) (before.says unended);
+        says = λ unended. task-again old s refl before.owner before.tree.tasks before.tree.tasks before.task m (λ w. still-ahead old s before.owner refl) (λ f waits. come-again old.board r.board before.tree.tasks before.task f (begun f)) (before.says unended);
+        decides = λ ended e root. root-again old s before.owner m before.hangs (λ w. still-ahead old s before.owner refl) (before.decides ended e root);
       }
 
   begun-actors : (a : Name) (z : Actor) (c : Bool) → same_name a root ≡ c → piece_at r.board a ≡ Some (piece.Actor z) → z.mark ≡ actor_mark (has_turn old.taken a z.state) (mail_at old.mails a)
@@ -336,7 +339,7 @@ module _ (old : Shared) (all : AreMarked old) (u : Name) (x : Doing) (at_u : uni
   begun-but : AreMarkedBut u false s
   begun-but = record {
     units = λ v z other is. begun-units v z (same_name v root) refl other is;
-    tasks = λ n m other is. let so = begun-tasks n m (same_name n root) refl is in record { owner = so.owner; of = so.of; tree = so.tree; attempt = so.attempt; task = so.task; among = so.among; hangs = so.hangs; says = λ unended why. so.says unended };
+    tasks = λ n m other is. let so = begun-tasks n m (same_name n root) refl is in record { owner = so.owner; of = so.of; tree = so.tree; attempt = so.attempt; task = so.task; among = so.among; hangs = so.hangs; says = λ unended why. so.says unended; decides = so.decides };
     actors = λ a z is. begun-actors a z (same_name a root) refl is;
     pieces = λ v tree is n t among. begun-pieces v tree (same_name v u) refl is n t among;
   }

@@ -1,9 +1,9 @@
 -- How the marks stay right.
-use Rattle.std.proofs.Common.{◌≡◌, ◌∙◌, ◌⊎◌, Bool, true, false, cond, inl, inr, refl, sym, ap, ap₂, subst}
+use Rattle.std.proofs.Common.{◌≡◌, ◌∙◌, Bool, true, false, inl, inr, refl, sym, ap, ap₂, subst}
 use Rattle.std.specs.Option.{option_and_then, option_map}
-use Rattle.std.specs.Prelude.{List, [], ◌∷◌, Option, None, Some, if◌then◌else◌}
+use Rattle.std.specs.Prelude.{List, [], ◌∷◌, Option, None, Some}
 use Rattle.actor_mailbox.specs.declared.message.Message.{Message}
-use Rattle.actor_mails.specs.Mails.{Mail, SameMail, mail_at}
+use Rattle.actor_mails.specs.Mails.{SameMail, mail_at}
 use Rattle.serial_model.specs.declared.halt.Halt.TheVariants as halt
 use Rattle.serial_model.specs.declared.request.Request.TheVariants as request
 use Rattle.serial_model.specs.State.{Setup, UnitState}
@@ -11,14 +11,15 @@ use Rattle.serial_model.specs.Step.{next_of}
 use Rattle.shared_world.proofs.Besides.{IsWas, WasTask, WasUnit, apart-of, was-actor, was-task, was-unit, task-beside}
 use Rattle.shared_world.proofs.States.{beside-same}
 use Rattle.shared_world.specs.Marks as marks
-use Rattle.shared_world.specs.Ahead.{Ahead}
-use Rattle.shared_world.specs.Marks.{AreMarked, HangsOn, HasMarks, HasPiece, IsRunningAhead, IsTaskPiece, IsToCome, TaskSays, UnitSays, UnitWaits}
+use Rattle.shared_world.specs.Marks.{AreMarked, HangsOn, HasMarks, HasPiece, IsRunningAhead, IsTaskPiece, IsToCome, RootSays, TaskSays, UnitSays, UnitWaits}
 use Rattle.shared_world.specs.rows.Actors.{actor_mark, has_turn}
 use Rattle.shared_world.specs.rows.Leading.{can_settle, settles_next}
 use Rattle.shared_world.specs.rows.Pieces.{IsSet}
 use Rattle.shared_world.specs.Shared.{Shared, finished_at, finished_by, is_going, unit_state}
 use Rattle.task_fork_join.specs.Attempt.{Attempt, end_at}
 use Rattle.task_fork_join.specs.declared.task.Task.{Task}
+use Rattle.task_fork_join.specs.declared.task_end.TaskEnd.{TaskEnd}
+use Rattle.task_fork_join.specs.Joining.{JoinsAt}
 use Rattle.unit_table.specs.Board.{Board, SamePieces, piece_at, unit_at}
 use Rattle.unit_table.specs.declared.mark.Mark.{Mark}
 use Rattle.unit_table.specs.declared.mark.Mark.TheVariants as mark
@@ -28,9 +29,8 @@ use Rattle.unit_table.specs.declared.piece.Actor.{Actor}
 use Rattle.unit_table.specs.declared.piece.Piece.{Piece}
 use Rattle.unit_table.specs.declared.piece.Piece.TheVariants as piece
 use Rattle.unit_table.specs.declared.unit.Unit.{Unit as Doing}
-use Rattle.unit_table.specs.Piece.{awaited, beside, is_for, mark_in, says_finished, unit_in}
+use Rattle.unit_table.specs.Piece.{awaited, is_for, says_finished, unit_in}
 use Rattle.value_core.proofs.NamedLaws.{same_name-equal}
-use Rattle.value_core.specs.declared.value.Value.{Value}
 use Rattle.value_core.specs.Named.{Name, Named, named, same_name}
 
 -- the attempts of a unit have the same root, or it has none
@@ -106,22 +106,35 @@ unit-like s u x y mark.Dropped same is = absurd is
 pub still-ahead : (old new : Shared) (turn : Name) → named turn new.aheads ≡ named turn old.aheads → IsRunningAhead old turn → IsRunningAhead new turn
 still-ahead old new turn same is = record { ahead = is.ahead; leads = same ∙ is.leads }
 
+-- a task joins the same in the same program
+pub joins-again : (old new : Shared) → new.setup ≡ old.setup → (t : Task) (f : Name) → JoinsAt old.setup.program t t.stage f → JoinsAt new.setup.program t t.stage f
+joins-again old new setup t f is = subst (λ (s : Setup). JoinsAt s.program t t.stage f) (sym setup) is
+
 -- the mark of a task that stays says the same
-pub task-again : (old new : Shared) (owner : Name) (tasks after : Named Task) (t : Task) (m : Mark) → (m ≡ mark.Waiting (wait.Definite owner) → IsRunningAhead old owner → IsRunningAhead new owner)
+pub task-again : (old new : Shared) → new.setup ≡ old.setup → (owner : Name) (tasks after : Named Task) (t : Task) (m : Mark) → (m ≡ mark.Waiting (wait.Definite owner) → IsRunningAhead old owner → IsRunningAhead new owner)
     → ((f : Name) → m ≡ mark.Waiting (wait.Finish f) → IsToCome old.board tasks t f → IsToCome new.board after t f) → TaskSays old owner tasks t m → TaskSays new owner after t m
-task-again old new owner tasks after t (mark.Ready work.Eval) leads still is = is
-task-again old new owner tasks after t (mark.Ready work.Settle) leads still is = tt
-task-again old new owner tasks after t (mark.Ready work.Begin) leads still is = absurd is
-task-again old new owner tasks after t (mark.Waiting (wait.Finish f)) leads still is = record { going = is.going; to_come = still f refl is.to_come }
-task-again old new owner tasks after t (mark.Waiting (wait.Definite turn)) leads still is = record { going = is.going; own = is.own; leads = leads (ap (λ q. mark.Waiting (wait.Definite q)) is.own) is.leads }
-task-again old new owner tasks after t mark.Resting leads still is = absurd is
-task-again old new owner tasks after t (mark.Finished v) leads still is = is
-task-again old new owner tasks after t mark.Dropped leads still is = absurd is
+task-again old new setup owner tasks after t (mark.Ready work.Eval) leads still is = is
+task-again old new setup owner tasks after t (mark.Ready work.Settle) leads still is = tt
+task-again old new setup owner tasks after t (mark.Ready work.Begin) leads still is = absurd is
+task-again old new setup owner tasks after t (mark.Waiting (wait.Finish f)) leads still is = record { going = is.going; joins = joins-again old new setup t f is.joins; to_come = still f refl is.to_come }
+task-again old new setup owner tasks after t (mark.Waiting (wait.Definite turn)) leads still is = record { going = is.going; own = is.own; leads = leads (ap (λ q. mark.Waiting (wait.Definite q)) is.own) is.leads }
+task-again old new setup owner tasks after t mark.Resting leads still is = absurd is
+task-again old new setup owner tasks after t (mark.Finished v) leads still is = is
+task-again old new setup owner tasks after t mark.Dropped leads still is = absurd is
 
 -- and so does what it waits for, where the tasks of its attempt stay
 pub come-again : (b c : Board) (tasks : Named Task) (t : Task) (f : Name) → (finished_at b f ≡ None → finished_at c f ≡ None) → IsToCome b tasks t f → IsToCome c tasks t f
-come-again b c tasks t f over (marks.task child there going) = marks.task child there going
+come-again b c tasks t f over (marks.task known child there going) = marks.task known child there going
 come-again b c tasks t f over (marks.unit unknown none) = marks.unit unknown (over none)
+
+-- a root that is still to be decided on is so, where the unit that it waits for runs ahead still
+pub root-again : (old new : Shared) (owner : Name) (m : Mark) → HangsOn owner m → (m ≡ mark.Waiting (wait.Definite owner) → IsRunningAhead old owner → IsRunningAhead new owner) → RootSays old owner m → RootSays new owner m
+root-again old new owner (mark.Ready work) hangs leads is = tt
+root-again old new owner (mark.Waiting (wait.Finish f)) hangs leads is = absurd is
+root-again old new owner (mark.Waiting (wait.Definite turn)) hangs leads is = leads (ap (λ q. mark.Waiting (wait.Definite q)) (hangs turn refl)) is
+root-again old new owner mark.Resting hangs leads is = absurd is
+root-again old new owner (mark.Finished v) hangs leads is = absurd is
+root-again old new owner mark.Dropped hangs leads is = absurd is
 
 -- the piece of a task, of which the mark is right unless it waits for what ends
 pub record IsTaskPieceBut (name : Name) (ends : Bool) (s : Shared) (n : Name) (m : Mark) : Type 0 where
@@ -133,6 +146,7 @@ pub record IsTaskPieceBut (name : Name) (ends : Bool) (s : Shared) (n : Name) (m
   pub among : named n tree.tasks ≡ Some task
   pub hangs : HangsOn owner m
   pub says : end_at tree ≡ None → (ends ≡ true → m ≡ mark.Waiting (wait.Finish name) → ⊥) → TaskSays s owner tree.tasks task m
+  pub decides : (ended : TaskEnd) → end_at tree ≡ Some ended → n ≡ tree.root → RootSays s owner m
 
 -- the mark of each actor is right
 abbrev pub ActorsAreMarked : Shared → Type 0
@@ -203,7 +217,7 @@ same-finished : (old new : Shared) → IsSameButActors old new → (f : Name) �
 same-finished old new same f = ap (λ o. option_and_then (λ (k : UnitState). k.finished) (option_map unit_state o)) (same-unit old new same f)
 
 task-piece-same : (old new : Shared) (n : Name) (m : Mark) → IsSameButActors old new → IsTaskPiece old n m → IsTaskPiece new n m
-task-piece-same old new n m same is = record {
+task-piece-same old new n m same is = let leads : IsRunningAhead old is.owner → IsRunningAhead new is.owner = still-ahead old new is.owner (ap (named is.owner) same.aheads) in record {
   owner = is.owner;
   of = ap (named n) same.owners ∙ is.of;
   tree = is.tree;
@@ -211,7 +225,8 @@ task-piece-same old new n m same is = record {
   task = is.task;
   among = is.among;
   hangs = is.hangs;
-  says = λ unended. task-again old new is.owner is.tree.tasks is.tree.tasks is.task m (λ e. still-ahead old new is.owner (ap (named is.owner) same.aheads)) (λ f e. come-again old.board new.board is.tree.tasks is.task f (λ none. same-finished old new same f ∙ none)) (is.says unended);
+  says = λ unended. task-again old new same.setup is.owner is.tree.tasks is.tree.tasks is.task m (λ e. leads) (λ f e. come-again old.board new.board is.tree.tasks is.task f (λ none. same-finished old new same f ∙ none)) (is.says unended);
+  decides = λ ended e root. root-again old new is.owner m is.hangs (λ e. leads) (is.decides ended e root);
 }
 
 unit-same : (old new : Shared) (u : Name) (x : Doing) → IsSameButActors old new → UnitSays old u x x.mark → UnitSays new u x x.mark
@@ -249,7 +264,7 @@ marked-same old new same all = marked-actors old new (same-but old new same all)
 pub but-one : (s : Shared) (name : Name) (ends : Bool) → AreMarked s → AreMarkedBut name ends s
 but-one s name ends all = record {
   units = λ u x other there. all.units u x there;
-  tasks = λ n m other there. let is = all.tasks n m there in record { owner = is.owner; of = is.of; tree = is.tree; attempt = is.attempt; task = is.task; among = is.among; hangs = is.hangs; says = λ unended why. is.says unended };
+  tasks = λ n m other there. let is = all.tasks n m there in record { owner = is.owner; of = is.of; tree = is.tree; attempt = is.attempt; task = is.task; among = is.among; hangs = is.hangs; says = λ unended why. is.says unended; decides = is.decides };
   actors = all.actors;
   pieces = all.pieces;
 }
@@ -347,6 +362,7 @@ module _ (s new : Shared) (name : Name) (p : Piece) (m : Mark) (is : IsRightSet 
     among = before.among;
     hangs = hangs was.was;
     says = λ unended. on unended was.was;
+    decides = λ ended e root. decides ended e root was.was;
   }
     where
       other : n ≡ name → ⊥
@@ -366,9 +382,13 @@ module _ (s new : Shared) (name : Name) (p : Piece) (m : Mark) (is : IsRightSet 
       hangs (inl w) turn waits = before.hangs turn (sym w.0 ∙ waits)
       hangs (inr w) turn waits = let no : mark.Ready work.Settle ≡ mark.Waiting (wait.Definite turn) = sym w.1 ∙ waits in cc
 
+      decides : (ended : TaskEnd) → end_at before.tree ≡ Some ended → n ≡ before.tree.root → IsWas name m was.mark k → RootSays new before.owner k
+      decides ended e root (inl w) = subst (RootSays new before.owner) (sym w.0) (root-again s new before.owner was.mark before.hangs (λ e. leads (same_name before.owner name) refl) (before.decides ended e root))
+      decides ended e root (inr w) = subst (RootSays new before.owner) (sym w.1) tt
+
       on : end_at before.tree ≡ None → IsWas name m was.mark k → TaskSays new before.owner before.tree.tasks before.task k
       on unended (inl w) = subst (λ j. TaskSays new before.owner before.tree.tasks before.task j) (sym w.0)
-          (task-again s new before.owner before.tree.tasks before.tree.tasks before.task was.mark (λ e. leads (same_name before.owner name) refl) (λ f e. come-again s.board new.board before.tree.tasks before.task f (over f (λ here. w.1 (e ∙ ap (λ q. mark.Waiting (wait.Finish q)) here))))
+          (task-again s new is.setup before.owner before.tree.tasks before.tree.tasks before.task was.mark (λ e. leads (same_name before.owner name) refl) (λ f e. come-again s.board new.board before.tree.tasks before.task f (over f (λ here. w.1 (e ∙ ap (λ q. mark.Waiting (wait.Finish q)) here))))
           (before.says unended (λ ends waits. let no : true ≡ false = sym ends ∙ w.1 waits in cc)))
       on unended (inr w) = subst (λ j. TaskSays new before.owner before.tree.tasks before.task j) (sym w.1) tt
 

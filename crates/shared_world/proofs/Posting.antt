@@ -1,7 +1,7 @@
 -- What the root of an attempt sends is put at once or kept: what that leaves as it was.
-use Rattle.std.proofs.Common.{◌≡◌, ◌∙◌, Bool, true, false, cond, List, [], ◌∷◌, ◌++◌, append-nil, refl, sym, ap, ap₂, subst}
+use Rattle.std.proofs.Common.{◌≡◌, ◌∙◌, Bool, true, false, List, [], ◌∷◌, ◌++◌, append-nil, refl, sym, ap, ap₂, subst}
 use Rattle.std.specs.Option.{option_and_then}
-use Rattle.std.specs.Prelude.{Option, None, Some, is_some, flat_map}
+use Rattle.std.specs.Prelude.{Option, None, Some, is_some}
 use Rattle.actor_mails.specs.Mails.{Mail, mail_at}
 use Rattle.eval_step.specs.Evaluation.{Evaluation}
 use Rattle.serial_model.specs.declared.effect.Effect.{Effect}
@@ -31,7 +31,7 @@ use Rattle.task_fork_join.specs.declared.stepped.Stepped.{Stepped}
 use Rattle.task_fork_join.specs.declared.task_end.TaskEnd.{TaskEnd}
 use Rattle.task_fork_join.specs.Step.{IsStep}
 use Rattle.txn_snapshot.specs.SnapshotAnswer.{snapshot_of}
-use Rattle.unit_table.specs.Board.{Board, IsPutAt, is_unfinished, piece_at, unit_at}
+use Rattle.unit_table.specs.Board.{Board, is_unfinished, piece_at, unit_at}
 use Rattle.unit_table.specs.declared.mark.Mark.{Mark}
 use Rattle.unit_table.specs.declared.piece.Piece.{Piece}
 use Rattle.unit_table.specs.declared.piece.Piece.TheVariants as piece

@@ -1,15 +1,11 @@
 -- Where everything is back where the history left it, what is kept stands.
-use Rattle.std.proofs.Common.{◌≡◌, ◌∙◌, suc, Bool, true, false, cond, length, List, [], ◌∷◌, ◌++◌, refl, sym, ap, ap₂, subst}
+use Rattle.std.proofs.Common.{◌≡◌, ◌∙◌, suc, true, length, [], ◌++◌, refl, sym, ap, ap₂, subst}
 use Rattle.std.specs.Option.{option_and_then, option_map}
-use Rattle.std.specs.Prelude.{Option, None, Some, not}
-use Rattle.actor_mailbox.specs.declared.message.Message.{Message}
-use Rattle.actor_mailbox.specs.Messages.{passes, without}
+use Rattle.std.specs.Prelude.{Option, None, Some}
+use Rattle.actor_mailbox.specs.Messages.{without}
 use Rattle.actor_mails.specs.Mails.{mail_at}
-use Rattle.eval_step.specs.Evaluation.{Evaluation}
 use Rattle.ref_store.proofs.StoreLaws.{above_pruned}
 use Rattle.ref_store.specs.declared.version.Version.{Version}
-use Rattle.serial_model.specs.declared.actor_state.ActorState.{ActorState}
-use Rattle.serial_model.specs.State.{UnitState}
 use Rattle.shared_world.proofs.ActorPieces.{actor_of_piece}
 use Rattle.shared_world.proofs.States.{state_of}
 use Rattle.shared_world.specs.Ahead.{Ahead}
@@ -29,7 +25,7 @@ use Rattle.value_core.specs.Named.{Name, named}
 use Rattle.world_model.proofs.Kept.{gave-keeps}
 use Rattle.world_model.specs.Gave as row
 use Rattle.world_model.specs.rows.Undone.{reset, reset_unit}
-use Rattle.world_model.specs.World.{LiveUnit, World, still}
+use Rattle.world_model.specs.World.{World, still}
 
 -- a unit is finished with that mark where it was
 pub anew-finished : (tried : Option Attempt) (m : Mark) → finished_by (mark_anew tried m) ≡ finished_by m

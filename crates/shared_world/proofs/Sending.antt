@@ -9,7 +9,6 @@ use Rattle.serial_model.specs.declared.actor_state.ActorState.{ActorState}
 use Rattle.serial_model.specs.declared.effect.Effect.{Effect}
 use Rattle.serial_model.specs.declared.effect.What.{What}
 use Rattle.serial_model.specs.declared.effect.What.TheVariants as what
-use Rattle.serial_model.specs.Sends.{effects_to}
 use Rattle.serial_model.specs.State.{UnitState}
 use Rattle.shared_world.proofs.ActorPieces.{not-same}
 use Rattle.shared_world.proofs.Doing.{does-more, having_done}

@@ -1,6 +1,6 @@
 -- How what is kept stands on, where parts of it change.
 use Rattle.std.proofs.Common.{◌≡◌, ◌∙◌, ◌≤◌, ℕ, suc, length, length-append, append-nil, le_refl, Bool, true, false, cond, List, [], ◌∷◌, ◌++◌, refl, sym, ap, subst, arith}
-use Rattle.std.specs.Option.{option_and_then, option_map, option_or}
+use Rattle.std.specs.Option.{IsSome, option_and_then, option_map, option_or}
 use Rattle.std.specs.Prelude.{Option, None, Some, is_some}
 use Rattle.actor_mails.specs.Mails.{Mail, SameMail, mail_at}
 use Rattle.core_syntax.specs.WellFormed.{IsWellFormed}
@@ -56,6 +56,7 @@ runs-on start at base more finished over tree same grows is = record {
     });
   };
   members = is.members;
+  read_there = λ r among. subst IsSome (sym (same r)) (is.read_there r among);
   root = is.root;
   actor = is.actor;
   fuel = is.fuel;

@@ -1,6 +1,6 @@
 -- A turn that an actor begins keeps what is kept standing.
-use Rattle.std.proofs.Common.{◌≡◌, ◌∙◌, ◌≤◌, ◌==◌, suc, Bool, true, false, cond, length, length-append, le_refl, List, [], ◌∷◌, ◌++◌, refl, sym, ap, subst, arith}
-use Rattle.std.specs.Option.{option_and_then, option_map}
+use Rattle.std.proofs.Common.{◌≡◌, ◌∙◌, ◌≤◌, ◌==◌, suc, Bool, true, false, cond, length, length-append, [], ◌∷◌, ◌++◌, refl, sym, ap, subst, arith}
+use Rattle.std.specs.Option.{option_and_then}
 use Rattle.std.specs.Prelude.{Option, None, Some}
 use Rattle.actor_mails.specs.Mails.{mail_at}
 use Rattle.serial_model.specs.declared.actor_state.ActorState.{ActorState}
@@ -16,24 +16,22 @@ use Rattle.shared_world.proofs.States.{SameStates, machines-put, states-put, uni
 use Rattle.shared_world.specs.declared.given.Given.{Given}
 use Rattle.shared_world.specs.rows.Turns.{GaveActor, TakesIfAllowed}
 use Rattle.shared_world.specs.Seen.{one_or_none}
-use Rattle.shared_world.specs.Shared.{Shared, finished_at, is_going, state_at}
-use Rattle.shared_world.specs.Stands.{IsMachine, IsUnderWay, Stands}
-use Rattle.task_fork_join.specs.Attempt.{Attempt}
+use Rattle.shared_world.specs.Shared.{Shared, finished_at, state_at}
+use Rattle.shared_world.specs.Stands.{IsMachine, Stands}
 use Rattle.unit_table.specs.Board.{actor_at, piece_at}
 use Rattle.unit_table.specs.declared.mark.Mark.TheVariants as mark
 use Rattle.unit_table.specs.declared.piece.Actor.{Actor}
 use Rattle.unit_table.specs.declared.piece.Piece.TheVariants as piece
 use Rattle.unit_table.specs.declared.unit.Unit.{Unit}
-use Rattle.unit_table.specs.Piece.{unit_in}
-use Rattle.value_core.proofs.NamedLaws.{same_name-equal, same_name-itself}
+use Rattle.value_core.proofs.NamedLaws.{same_name-equal}
 use Rattle.value_core.specs.declared.value.Value.{Value}
-use Rattle.value_core.specs.Named.{Name, made_by, named, same_name}
+use Rattle.value_core.specs.Named.{Name, made_by, same_name}
 use Rattle.world_model.proofs.Kept.{gave-keeps}
 use Rattle.world_model.specs.Gave as row
 use Rattle.world_model.specs.rows.Endings as end_row
 use Rattle.world_model.specs.rows.Endings.{ended_by}
 use Rattle.world_model.specs.rows.Turns.{BeginsAhead, begun_turn, busy_with, live_turn, taken_now}
-use Rattle.world_model.specs.World.{World, still, with_at}
+use Rattle.world_model.specs.World.{World, still}
 
 module _ (old : Shared) (st : Stands old) (on_going : old.end ≡ None) (a : Name) (found : Given) (new : Shared) (g : GaveActor old a found new) where
   abbrev w : World

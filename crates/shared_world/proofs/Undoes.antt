@@ -4,11 +4,7 @@ use Rattle.std.specs.Option.{option_and_then, option_map}
 use Rattle.std.specs.Prelude.{Option, None, Some, not}
 use Rattle.actor_mailbox.specs.declared.message.Message.{Message}
 use Rattle.actor_mailbox.specs.Messages.{depends_on, without}
-use Rattle.actor_mails.specs.Mails.{mail_at}
 use Rattle.ref_store.proofs.StoreLaws.{above_pruned}
-use Rattle.serial_model.proofs.runs.LastTurns.{replay-sounder}
-use Rattle.serial_model.proofs.runs.Made.{IsMade}
-use Rattle.serial_model.specs.declared.actor_state.ActorState.{ActorState}
 use Rattle.serial_model.specs.State.{State, UnitState}
 use Rattle.shared_world.proofs.ActorPieces.{actor_of_piece, not-same, unit-no-actor}
 use Rattle.shared_world.proofs.Gone.{SeenAs, seen-as}
@@ -24,7 +20,7 @@ use Rattle.shared_world.specs.Dependence as kept
 use Rattle.shared_world.specs.Dependence.{DependsIn}
 use Rattle.shared_world.specs.Laws.{IsTried}
 use Rattle.shared_world.specs.rows.Undoing.{Undoes, message_left, piece_left, root_gone, tree_left}
-use Rattle.shared_world.specs.Seen.{AttemptSeen, IsSeenAttempt, live_at, live_with, one_or_none}
+use Rattle.shared_world.specs.Seen.{AttemptSeen, live_at, live_with, one_or_none}
 use Rattle.shared_world.specs.Shared.{Shared, finished_at, state_at, tree_with, unit_state}
 use Rattle.shared_world.specs.Stands.{IsMachine, Stands}
 use Rattle.task_fork_join.specs.Attempt.{Attempt}
@@ -34,9 +30,8 @@ use Rattle.unit_table.specs.declared.piece.Piece.TheVariants as piece
 use Rattle.unit_table.specs.declared.unit.Unit.{Unit}
 use Rattle.unit_table.specs.Piece.{unit_in}
 use Rattle.value_core.proofs.NamedLaws.{same_name-equal}
-use Rattle.value_core.specs.Named.{Name, made_by, named, same_name}
+use Rattle.value_core.specs.Named.{Name, named, same_name}
 use Rattle.world_model.proofs.Kept.{gave-keeps}
-use Rattle.world_model.proofs.records.Names.{maker, no-unit-of-root, root}
 use Rattle.world_model.proofs.records.Ranks.{unit-stays}
 use Rattle.world_model.proofs.rows.Aborts.{is-gone}
 use Rattle.world_model.proofs.rows.Undone.{IsGone}
@@ -44,7 +39,6 @@ use Rattle.world_model.specs.Dependence as seen_as
 use Rattle.world_model.specs.Dependence.{DependsOn}
 use Rattle.world_model.specs.Gave as row
 use Rattle.world_model.specs.rows.Undone.{Aborts, undone, unless_gone}
-use Rattle.world_model.specs.StandsFor.{HasBegun, TakenStands}
 use Rattle.world_model.specs.World as world
 use Rattle.world_model.specs.World.{LiveUnit, World, still}
 

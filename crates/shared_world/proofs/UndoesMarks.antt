@@ -6,12 +6,12 @@ use Rattle.actor_mailbox.specs.Messages.{depends_on}
 use Rattle.actor_mails.specs.Mails.{mail_at}
 use Rattle.shared_world.proofs.Live.{unit-piece}
 use Rattle.shared_world.proofs.ActorPieces.{not-same}
-use Rattle.shared_world.proofs.Marks.{ActorsAreMarked, IsStill, SameRoot, come-again, still-ahead, task-again, unit-again}
+use Rattle.shared_world.proofs.Marks.{ActorsAreMarked, IsStill, SameRoot, come-again, root-again, still-ahead, task-again, unit-again}
 use Rattle.shared_world.proofs.Takings.{begun-turn, one-is}
 use Rattle.shared_world.proofs.Undoes.{ahead-left, goes, over, root-goes, tree-of-left, tree-stays, tree-was, unit-was, unit-without, true-not-false}
 use Rattle.shared_world.specs.Ahead.{Ahead}
 use Rattle.shared_world.specs.Laws.{IsTried}
-use Rattle.shared_world.specs.Marks.{AreMarked, AreMarkedBeside, HasPiece, IsTaskOf, IsTaskPiece, IsYetToStand, UnitSays}
+use Rattle.shared_world.specs.Marks.{AreMarked, AreMarkedBeside, HasPiece, IsRunningAhead, IsTaskOf, IsTaskPiece, IsYetToStand, UnitSays}
 use Rattle.shared_world.specs.rows.Actors.{actor_mark, has_turn}
 use Rattle.shared_world.specs.rows.Leading.{can_settle, is_definite, is_settled, settles_next}
 use Rattle.shared_world.specs.rows.Undoing.{Undoes, actor_now, message_left, piece_left, root_gone, tree_left}
@@ -144,13 +144,16 @@ module _ (old new : Shared) (u : Name) (x : Doing) (tree : Attempt) (is : IsTrie
         task = before.task;
         among = before.among;
         hangs = before.hangs;
-        says = λ unended. task-again old new before.owner before.tree.tasks before.tree.tasks before.task m
-            (λ waits. still-ahead old new before.owner (ahead-left old new u x tree is r before.owner (tree-of-left old new u x tree is r before.owner before.tree before.attempt left)))
+        says = λ unended. task-again old new (ap (λ (s : Shared). s.setup) r.others) before.owner before.tree.tasks before.tree.tasks before.task m (λ waits. leads)
             (λ f waits. come-again old.board new.board before.tree.tasks before.task f (over old new u x tree is r f)) (before.says unended);
+        decides = λ ended e root. root-again old new before.owner m before.hangs (λ waits. leads) (before.decides ended e root);
       }
         where
           left : gone before.tree.root ≡ false
           left = root-left before.owner before.tree before.of before.attempt
+
+          leads : IsRunningAhead old before.owner → IsRunningAhead new before.owner
+          leads = still-ahead old new before.owner (ahead-left old new u x tree is r before.owner (tree-of-left old new u x tree is r before.owner before.tree before.attempt left))
 
   -- ---- actors
   actors : ActorsAreMarked new

@@ -1,6 +1,6 @@
 -- What a unit comes to keeps what is kept standing.
 use Rattle.std.proofs.Common.{◌≡◌, ◌∙◌, ◌≤◌, ℕ, suc, ◌==◌, Bool, true, false, cond, length, length-append, List, [], ◌∷◌, ◌++◌, refl, sym, ap, subst, arith}
-use Rattle.std.specs.Option.{option_and_then, option_map, option_or}
+use Rattle.std.specs.Option.{option_and_then}
 use Rattle.std.specs.Prelude.{Option, None, Some, is_some}
 use Rattle.actor_mailbox.specs.declared.message.Message.{Message}
 use Rattle.actor_mails.specs.Mails.{Mail, mail_at}
@@ -19,9 +19,8 @@ use Rattle.serial_model.specs.State.{UnitState, new_unit}
 use Rattle.serial_model.specs.Step.{after_turn, answered, becoming, idle, next_made, next_of, with_made}
 use Rattle.shared_world.specs.declared.given.Given.{Given}
 use Rattle.shared_world.specs.rows.Pieces.{Ends, IsMarkedUnit, IsSet, IsUnitAt, Settles, mark_after}
-use Rattle.shared_world.specs.rows.Actors.{FinishesTurn, Sends, Spawns, actor_mark, actor_with, roused_unless}
+use Rattle.shared_world.specs.rows.Actors.{Sends, Spawns, actor_mark, actor_with, roused_unless}
 use Rattle.shared_world.specs.rows.Units.{Becomes, Derefs, Finishes, ForksIfAllowed, Joins, Selves, Tries, UnitGives}
-use Rattle.shared_world.specs.Seen.{AttemptSeen}
 use Rattle.shared_world.proofs.ActorPieces.{SameActors, actor-no-unit, actor-put, actor_of_piece, actors-put, actors-set, not-same, roused-same, unit-no-actor}
 use Rattle.shared_world.specs.Shared.{Shared, actor_of, finished_at, is_going, ref_now, state_at, unit_state}
 use Rattle.shared_world.specs.Stands.{IsMachine, Stands}
@@ -52,8 +51,7 @@ use Rattle.world_model.specs.rows.Endings as end_row
 use Rattle.world_model.specs.rows.Endings.{EndsRun, ended_by}
 use Rattle.value_core.specs.declared.code.Code.TheVariants as code
 use Rattle.world_model.specs.Message.{settled as message_settled}
-use Rattle.world_model.specs.World.{LiveUnit, World, put_last, still, with_at}
-use Rattle.world_model.specs.World as world
+use Rattle.world_model.specs.World.{World, put_last, still, with_at}
 
 -- a unit that can do its next effect, and stands where the history left it
 pub record IsHere (s : Shared) (u : Name) (unit : UnitState) : Type 0 where

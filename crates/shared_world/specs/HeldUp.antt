@@ -26,7 +26,7 @@ pub data IsHeldUp (s : Shared) (name : Name) (p : Piece) : Type 0 where
   finished : (v : Value) → mark_in p ≡ mark.Finished v → IsHeldUp s name p
   unit : (x : Unit) (f : Name) → p ≡ piece.Unit x → UnitWaits s name x f → IsHeldUp s name p
   tentative : (x : Unit) → p ≡ piece.Unit x → IsTentative s name → IsHeldUp s name p
-  task : (f : Name) (is : IsTaskPiece s name (mark.Waiting (wait.Finish f))) → p ≡ piece.Task (mark.Waiting (wait.Finish f)) → TaskWaits s.board is.tree.tasks is.task f → IsHeldUp s name p
+  task : (f : Name) (is : IsTaskPiece s name (mark.Waiting (wait.Finish f))) → p ≡ piece.Task (mark.Waiting (wait.Finish f)) → TaskWaits s is.tree.tasks is.task f → IsHeldUp s name p
   hangs : (turn : Name) (is : IsTaskPiece s name (mark.Waiting (wait.Definite turn))) → p ≡ piece.Task (mark.Waiting (wait.Definite turn)) → TurnWaits s is.owner is.task turn → IsHeldUp s name p
   over : (m : Mark) (is : IsTaskPiece s name m) → p ≡ piece.Task m → (end_at is.tree ≡ None → ⊥) → IsHeldUp s name p
   busy : (a : Actor) → p ≡ piece.Actor a → has_turn s.taken name a.state ≡ true → IsHeldUp s name p

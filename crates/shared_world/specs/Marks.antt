@@ -10,7 +10,9 @@ use Rattle.shared_world.specs.rows.Leading.{can_settle}
 use Rattle.shared_world.specs.Shared.{Shared, finished_at, is_going, unit_state}
 use Rattle.task_fork_join.specs.Attempt.{Attempt, end_at, end_of}
 use Rattle.task_fork_join.specs.declared.task.Task.{Task}
-use Rattle.task_fork_join.specs.Joining.{IsGoing, known_in}
+use Rattle.task_fork_join.specs.declared.task_end.TaskEnd.{TaskEnd}
+use Rattle.task_fork_join.specs.Joining.{IsGoing, JoinsAt, known_in}
+use Rattle.task_fork_join.specs.Knowledge.{is_known}
 use Rattle.unit_table.specs.Board.{Board, piece_at, unit_at}
 use Rattle.unit_table.specs.declared.mark.Mark.{Mark}
 use Rattle.unit_table.specs.declared.mark.Mark.TheVariants as mark
@@ -44,16 +46,17 @@ UnitSays s u x (mark.Waiting (wait.Definite turn)) = (turn ≡ u) × IsTentative
 UnitSays s u x (mark.Finished v) = named u s.attempts ≡ None
 UnitSays s u x _ = ⊥
 
--- What a task waits for is still to come: a task of its attempt that goes on; or a unit that is not finished, where the task
--- knows no task of that name.
+-- What a task waits for is still to come: a task of its attempt that it knows and that goes on; or a unit that is not finished, where the
+-- task knows no task of that name.
 pub data IsToCome (b : Board) (tasks : Named Task) (t : Task) (f : Name) : Type 0 where
-  task : (child : Task) → named f tasks ≡ Some child → IsGoing child.stage → IsToCome b tasks t f
+  task : is_known t.knows f ≡ true → (child : Task) → named f tasks ≡ Some child → IsGoing child.stage → IsToCome b tasks t f
   unit : known_in tasks t.knows f ≡ None → finished_at b f ≡ None → IsToCome b tasks t f
 
--- it has not ended, and what it waits for is still to come
-pub record TaskWaits (b : Board) (tasks : Named Task) (t : Task) (f : Name) : Type 0 where
+-- it has not ended, it joins what it waits for, and that is still to come
+pub record TaskWaits (s : Shared) (tasks : Named Task) (t : Task) (f : Name) : Type 0 where
   pub going : IsGoing t.stage
-  pub to_come : IsToCome b tasks t f
+  pub joins : JoinsAt s.setup.program t t.stage f
+  pub to_come : IsToCome s.board tasks t f
 
 -- a turn that runs ahead
 pub record IsRunningAhead (s : Shared) (turn : Name) : Type 0 where
@@ -71,7 +74,7 @@ pub record TurnWaits (s : Shared) (owner : Name) (t : Task) (turn : Name) : Type
 abbrev pub TaskSays : Shared → Name → Named Task → Task → Mark → Type 0
 TaskSays s owner tasks t (mark.Ready work.Eval) = IsGoing t.stage
 TaskSays s owner tasks t (mark.Ready work.Settle) = Unit {0}
-TaskSays s owner tasks t (mark.Waiting (wait.Finish f)) = TaskWaits s.board tasks t f
+TaskSays s owner tasks t (mark.Waiting (wait.Finish f)) = TaskWaits s tasks t f
 TaskSays s owner tasks t (mark.Waiting (wait.Definite turn)) = TurnWaits s owner t turn
 TaskSays s owner tasks t (mark.Finished v) = end_of t.stage ≡ None → ⊥
 TaskSays s owner tasks t _ = ⊥
@@ -80,8 +83,14 @@ TaskSays s owner tasks t _ = ⊥
 abbrev pub HangsOn : Name → Mark → Type 0
 HangsOn owner m = (turn : Name) → m ≡ mark.Waiting (wait.Definite turn) → turn ≡ owner
 
--- the piece of a task: it is of the attempt of its unit, and waits for no other turn; and while the root of that is not at its end, its
--- mark says where it is
+-- where the root of an attempt is at its end, and that is still to be decided on, it can be done, or the unit runs ahead and is waited for
+abbrev pub RootSays : Shared → Name → Mark → Type 0
+RootSays s owner (mark.Ready work) = Unit {0}
+RootSays s owner (mark.Waiting (wait.Definite turn)) = IsRunningAhead s owner
+RootSays s owner _ = ⊥
+
+-- The piece of a task: it is of the attempt of its unit, and waits for no other turn. While the root of that is not at its end, its mark
+-- says where it is; then the root is still to be decided on.
 pub record IsTaskPiece (s : Shared) (n : Name) (m : Mark) : Type 0 where
   pub owner : Name
   pub of : named n s.owners ≡ Some owner
@@ -91,6 +100,7 @@ pub record IsTaskPiece (s : Shared) (n : Name) (m : Mark) : Type 0 where
   pub among : named n tree.tasks ≡ Some task
   pub hangs : HangsOn owner m
   pub says : end_at tree ≡ None → TaskSays s owner tree.tasks task m
+  pub decides : (ended : TaskEnd) → end_at tree ≡ Some ended → n ≡ tree.root → RootSays s owner m
 
 -- a task of the attempt of that unit is a piece
 pub record HasPiece (s : Shared) (u n : Name) : Type 0 where

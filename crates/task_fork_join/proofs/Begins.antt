@@ -1,5 +1,5 @@
 -- An attempt of its root alone.
-use Rattle.std.proofs.Common.{◌≡◌, ◌∙◌, true, List, [], ◌∷◌, ◌⊎◌, inl, inr, refl, sym, ap, subst, Option, Some, None}
+use Rattle.std.proofs.Common.{◌≡◌, ◌∙◌, true, false, List, [], ◌∷◌, ◌⊎◌, inl, inr, refl, sym, ap, subst, Option, Some, None}
 use Rattle.eval_step.specs.Evaluation.{Evaluation}
 use Rattle.serial_model.proofs.standing.Requests.{task_at}
 use Rattle.serial_model.proofs.standing.Trees.{begun-run, root_of}
@@ -47,6 +47,7 @@ new_attempts_run start at base finished machine snapshot tree root new = record 
       (runs start at base finished machine tree root new.alone.task new.alone.log_is new.alone.knows_none new.alone.goes));
   members = subst (λ (rs : List Name). AreMembers start rs tree.tasks) (sym new.none_read)
       (subst (AreMembers start []) (sym new.alone.tasks_are) (members start at base finished machine tree root new.alone.task new.alone.log_is new.alone.knows_none new.alone.goes));
+  read_there = λ ref among. absurd (let none : false ≡ true = sym (ap (is_among ref) new.none_read) ∙ among in cc);
   root = new.root_is;
   actor = new.actor_is;
   fuel = new.fuel_is;

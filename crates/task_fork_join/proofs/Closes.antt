@@ -217,7 +217,7 @@ module _ (start : Start) (at : Spot) (base finished : Name → Option Datum) (ol
       let to = change t is.there in
       stepped start at base finished old new name moved (halt.Value v) was run is move stays_so to.item parts.knows.keys parts.log.log (stage_of kept_at) to.put
       (ap tree_task to.related ∙ (λ i. task_at (levels_below (sound.depth_is i)) (sound.base_is i) parts.knows.keys parts.log.log (stage_of kept_at)))
-      (λ ref among. ap (is_among ref) reads_are ∙ among)
+      reads_are
       (record {
         machine = subst (λ (s : Task). HasMachine start s.stage) (sym to.related) machine;
         actor = ap (λ (s : Task). s.log.actor) to.related ∙ sound.actor_is ∙ (run.members name t is.there).actor;

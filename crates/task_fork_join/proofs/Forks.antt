@@ -147,6 +147,7 @@ module _ (start : Start) (at : Spot) (base finished : Name → Option Datum) (ol
           (each-put (λ n (s : Task). IsMember start new.reads s) name to.item (with_named old.tasks f.future begins)
           (each-put (λ n (s : Task). IsMember start new.reads s) f.future begins old.tasks (λ n s there. member_still s (run.members n s there)) child_member)
           parent_member);
+      read_there = λ ref among. run.read_there ref (ap (is_among ref) (sym reads_are) ∙ among);
       root = stays_so.root ∙ run.root;
       actor = stays_so.actor ∙ run.actor;
       fuel = stays_so.fuel ∙ run.fuel;

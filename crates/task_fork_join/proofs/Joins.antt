@@ -134,7 +134,7 @@ module _ (start : Start) (at : Spot) (base finished : Name → Option Datum) (ol
           stepped start at base finished old new name moved asks (going_at moved) run is move stays_so to.item joined.parts.knows.keys (merged t.log.log child.log.log)
           (Going moved.body moved.values (moved.answers ++ answer.Value joined.value ∷ [])) to.put
           (came_task to.item to.related)
-          (λ ref among. ap (is_among ref) reads_are ∙ among)
+          reads_are
           (record {
             machine = subst (λ (s : Task). HasMachine start s.stage) (sym to.related) (given_machine start at base finished moved took.machine (answer.Value joined.value) move.machine took.given_so);
             actor = ap (λ (s : Task). s.log.actor) to.related ∙ ap (λ (l : SnapshotTask). l.actor) merges.log_is ∙ (run.members name t is.there).actor;

@@ -16,3 +16,4 @@ pub mod Replying
 pub mod Staying
 pub mod StepShapes
 pub mod Steps
+pub mod Waits

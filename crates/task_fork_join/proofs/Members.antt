@@ -1,5 +1,6 @@
 -- The tasks of an attempt, one of which is put in the place of another one.
 use Rattle.std.proofs.Common.{◌≡◌, ◌∙◌, ℕ, ◌≤◌, ◌<◌, Bool, true, false, List, [], ◌∷◌, ◌++◌, fold, refl, sym, ap, subst, Option, Some, None, arith}
+use Rattle.std.specs.Option.{IsSome}
 use Rattle.std.specs.Prelude.{◌||◌}
 use Rattle.eval_step.specs.Evaluation.{Evaluation}
 use Rattle.serial_model.proofs.standing.Requests.{task_at}
@@ -66,13 +67,14 @@ module _ (start : Start) (at : Spot) (base finished : Name → Option Datum) whe
 
   -- a task is put, and the attempt still runs its transaction
   pub put_runs : (old new : Attempt) (name : Name) (t' : Task) → IsRun start at base finished old → Stays old new → new.tasks ≡ with_named old.tasks name t'
-      → AreAmong old.reads new.reads → IsMember start new.reads t'
+      → AreAmong old.reads new.reads → ((ref : Name) → is_among ref new.reads ≡ true → IsSome (base ref)) → IsMember start new.reads t'
       → Runs start base finished (with_named (tasks_of old.tasks) name (tree_task t')) new.reads
       → IsRun start at base finished new
-  put_runs old new name t' run stays put all member runs = record {
+  put_runs old new name t' run stays put all there member runs = record {
     runs = subst (λ ts. Runs start base finished ts new.reads) (sym (ap tasks_of put ∙ each_as-with_named tree_task name t' old.tasks)) runs;
     members = subst (λ ts. AreMembers start new.reads ts) (sym put)
         (each-put (λ n (s : Task). IsMember start new.reads s) name t' old.tasks (λ n s there. member_more old.reads new.reads s all (run.members n s there)) member);
+    read_there = there;
     root = stays.root ∙ run.root;
     actor = stays.actor ∙ run.actor;
     fuel = stays.fuel ∙ run.fuel;
@@ -108,14 +110,14 @@ module _ (start : Start) (at : Spot) (base finished : Name → Option Datum) whe
 
     -- its place is taken by a task with that log, these known names and that stage
     pub stepped : (t' : Task) (knows : List Name) (log : Log) (stage : Stage) → new.tasks ≡ with_named old.tasks name t'
-        → tree_task t' ≡ at_stage knows log stage → AreAmong old.reads new.reads → IsMember start new.reads t'
+        → tree_task t' ≡ at_stage knows log stage → new.reads ≡ old.reads → IsMember start new.reads t'
         → log.name ≡ t.log.log.name → t.log.log.made ≤ log.made → ((f : Name) → is_among f knows ≡ true → is_there (tasks_of old.tasks) f ≡ true)
         → ((around : Around) → Agrees start base new.reads finished around → (results : Name → Result) → EachTask (IsAt around results) (tasks_of old.tasks)
         → next around.program moved.body moved.values true moved.answers around.fuel ≡ halts
         → IsAt around results name (at_stage t.knows.keys t.log.log was) → IsAt around results name (at_stage knows log stage))
         → IsRun start at base finished new
-    stepped t' knows log stage put same all its named_so made known steps =
-        put_runs old new name t' run stays put all its
+    stepped t' knows log stage put same reads_are its named_so made known steps =
+        put_runs old new name t' run stays put all (λ ref among. run.read_there ref (ap (is_among ref) (sym reads_are) ∙ among)) its
         (changed start base finished (tasks_of old.tasks) old.reads new.reads name (tree_task t) (tree_task t') run.runs there all
         (record {
           named_so = ap (λ (s : TreeTask). s.log.name) same ∙ named_so;
@@ -124,6 +126,9 @@ module _ (start : Start) (at : Spot) (base finished : Name → Option Datum) whe
         })
         (λ around agrees results each at_it. subst (IsAt around results name) (sym same)
         (steps around agrees results each (halts_so around new.reads agrees) (subst (IsAt around results name) was_there at_it))))
+      where
+        all : AreAmong old.reads new.reads
+        all ref among = ap (is_among ref) reads_are ∙ among
 
     -- only its stage changes
     pub staged : (t' : Task) (stage : Stage) → new.tasks ≡ with_named old.tasks name t' → t'.log ≡ t.log → t'.knows ≡ t.knows → stage_of t'.stage ≡ stage → new.reads ≡ old.reads
@@ -135,4 +140,4 @@ module _ (start : Start) (at : Spot) (base finished : Name → Option Datum) whe
     staged t' stage put log_is knows_is stage_is reads_are its steps =
         stepped t' t.knows.keys t.log.log stage put
         (λ i. task_at (levels_below (log_is i).depth) (log_is i).base (knows_is i).keys (log_is i).log (stage_is i))
-        (λ ref among. ap (is_among ref) reads_are ∙ among) its refl (omega arith) knows_there steps
+        reads_are its refl (omega arith) knows_there steps

@@ -1,7 +1,7 @@
 -- A task that its log answers.
 use Rattle.std.proofs.Common.{◌≡◌, ◌∙◌, Bool, true, false, cond, List, [], ◌∷◌, ◌++◌, refl, sym, ap, subst, Option, Some, None}
 use Rattle.std.specs.Prelude.{◌||◌, is_some}
-use Rattle.std.specs.Option.{option_map, option_or}
+use Rattle.std.specs.Option.{IsSome, option_map, option_or}
 use Rattle.eval_step.specs.Evaluation.{Evaluation}
 use Rattle.serial_model.specs.Ahead.{answer_ahead}
 use Rattle.serial_model.specs.declared.answer.Answer.{Answer}
@@ -29,6 +29,7 @@ use Rattle.txn_snapshot.specs.Laws.{in_tree}
 use Rattle.txn_snapshot.specs.Reads.{with_read}
 use Rattle.txn_snapshot.specs.SnapshotAnswer.{Reply, acts, reads_ref, replies, sets_ref}
 use Rattle.txn_snapshot.specs.SnapshotTask.{SnapshotTask, having_read, private, AreAmong}
+use Rattle.value_core.proofs.NamedLaws.{same_name-equal}
 use Rattle.value_core.specs.declared.value.Value.{Value as Datum}
 use Rattle.value_core.specs.Named.{Name, is_among, made_by, same_name, with_named, IsChanged}
 use Rattle.value_core.specs.Place.{Spot}
@@ -110,6 +111,37 @@ reads_noted base task after (request.Send to message) reads given all is = actin
 reads_noted base task after (request.Become behaviour state) reads given all is = acting task after (request.Become behaviour state) reads given (ahead_of task (request.Become behaviour state)) all refl is
 reads_noted base task after request.SelfActor reads given all is = acting task after request.SelfActor reads given (ahead_of task request.SelfActor) all refl is
 
+-- each ref that was read then has a value
+read_more : (base : Name → Option Datum) (task : SnapshotTask) (after : SnapshotTask) (ref : Name) (reads : List Name) (given : Answer) (own stored : Option Datum)
+    → ((r : Name) → is_among r reads ≡ true → IsSome (base r)) → private task ref ≡ own → base ref ≡ stored → reads_ref task ref own stored ≡ (answered.Now given, after)
+    → (r : Name) → is_among r (noted task (request.Deref ref) reads) ≡ true → IsSome (base r)
+read_more base task after ref reads given (Some v) stored all held is_there is r among =
+    all r (ap (is_among r) (sym (ap (λ (o : Option Datum). cond (is_some o) reads (with_read reads ref)) held)) ∙ among)
+read_more base task after ref reads given None (Some v) all none is_there is r among = on (same_name r ref) refl (sym (among-with_member r reads ref) ∙ more)
+  where
+    more : is_among r (with_read reads ref) ≡ true
+    more = ap (is_among r) (sym (ap (λ (o : Option Datum). cond (is_some o) reads (with_read reads ref)) none)) ∙ among
+
+    on : (b : Bool) → same_name r ref ≡ b → (b || is_among r reads) ≡ true → IsSome (base r)
+    on true same so = subst IsSome (sym (ap base (same_name-equal r ref same) ∙ is_there)) refl
+    on false same so = all r so
+read_more base task after ref reads given None None all none is_there is r among = absurd (let never = ap (λ (r : Reply). r.0) is in cc)
+
+read_there : (base : Name → Option Datum) (task after : SnapshotTask) (asked : Request) (reads : List Name) (given : Answer) → ((r : Name) → is_among r reads ≡ true → IsSome (base r))
+    → replies base task asked ≡ Some (answered.Now given, after) → (r : Name) → is_among r (noted task asked reads) ≡ true → IsSome (base r)
+read_there base task after (request.Print text) reads given all is = all
+read_there base task after (request.NewRef v) reads given all is = all
+read_there base task after (request.Deref ref) reads given all is =
+    read_more base task after ref reads given (private task ref) (base ref) all refl refl (same_reply (reads_ref task ref (private task ref) (base ref)) (answered.Now given, after) is)
+read_there base task after (request.RefSet ref v) reads given all is = all
+read_there base task after (request.Fork body values) reads given all is = all
+read_there base task after (request.Join future) reads given all is = all
+read_there base task after (request.Dosync body values) reads given all is = all
+read_there base task after (request.Spawn behaviour state) reads given all is = all
+read_there base task after (request.Send to message) reads given all is = all
+read_there base task after (request.Become behaviour state) reads given all is = all
+read_there base task after request.SelfActor reads given all is = all
+
 module _ (start : Start) (at : Spot) (base finished : Name → Option Datum) (old new : Attempt) (name : Name) (moved : Evaluation) (run : IsRun start at base finished old) (is : StandsAt name (going_at moved) old.tasks) (stays_so : Stays old new) where
   abbrev t : Task
   t = is.task
@@ -142,6 +174,7 @@ module _ (start : Start) (at : Spot) (base finished : Name → Option Datum) (ol
         let all : AreAmong old.reads new.reads = λ ref among. ap (is_among ref) (came.reads_so t is.there) ∙ noted_so.old ref among in
         let read : AreAmong log.reads new.reads = λ ref among. ap (is_among ref) (came.reads_so t is.there) ∙ noted_so.new ref among in
         put_runs start at base finished old new name to.item run stays_so to.put all
+        (λ ref among. read_there base t.log log asked old.reads given run.read_there reply ref (ap (is_among ref) (sym (came.reads_so t is.there)) ∙ among))
         (record {
           machine = subst (λ (s : Task). HasMachine start s.stage) (sym to.related) (given_machine start at base finished moved came.machine given move.machine came.given_so);
           actor = ap (λ (s : Task). s.log.actor) to.related ∙ leaves.actor ∙ (run.members name t is.there).actor;

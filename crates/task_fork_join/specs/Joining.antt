@@ -1,7 +1,11 @@
 -- What a join comes to.
-use Rattle.std.specs.Prelude.{◌≡◌, ◌||◌, true, false, Option, None, Some, if◌then◌else◌}
+use Rattle.std.specs.Prelude.{◌≡◌, ◌||◌, ℕ, true, false, Option, None, Some, if◌then◌else◌}
+use Rattle.core_syntax.specs.Table.{Table}
 use Rattle.eval_step.specs.Evaluation.{Evaluation}
 use Rattle.serial_model.specs.declared.answer.Answer.TheVariants as answer
+use Rattle.serial_model.specs.declared.halt.Halt.TheVariants as halt
+use Rattle.serial_model.specs.declared.request.Request.TheVariants as request
+use Rattle.serial_model.specs.Eval.{next}
 use Rattle.task_fork_join.specs.declared.joining.Joined.{Joined}
 use Rattle.task_fork_join.specs.declared.joining.Met.{Met}
 use Rattle.task_fork_join.specs.declared.joining.Met.TheVariants as met
@@ -17,7 +21,8 @@ use Rattle.task_fork_join.specs.Stepping.{Gone, HasParts, IsAnswered, IsGiven, I
 use Rattle.txn_snapshot.specs.SnapshotTask.{SnapshotTask, having_merged}
 use Rattle.value_core.specs.declared.value.Value.{Value as Datum}
 use Rattle.task_fork_join.specs.Knowledge.{Knowledge, is_known}
-use Rattle.value_core.specs.Named.{Name, Named, is_among, named, IsChanged}
+use Rattle.value_core.specs.Named.{Name, Named, is_among, made_by, named, IsChanged}
+use Rattle.value_core.specs.Place.{Spot}
 
 -- the task of a future, where it is among those that are known
 abbrev pub known_in : Named Task → Knowledge → Name → Option Task
@@ -39,6 +44,19 @@ abbrev pub IsGoing : KeptStage → Type 0
 IsGoing (kept.Going machine) = Unit {0}
 IsGoing (kept.Closing closing) = Unit {0}
 IsGoing (kept.Ended ended) = ⊥
+
+-- the child that a task made with that number is one that it knows and has not joined
+pub record IsToJoin (t : Task) (k : ℕ) (f : Name) : Type 0 where
+  pub called : f ≡ made_by t.log.log.name k
+  pub unjoined : is_among f t.log.log.joined ≡ false
+  pub known : is_known t.knows f ≡ true
+
+-- A task joins that future where it is: its body asks for it; or it is at its value, and the future is that of the child with which its
+-- joins go on.
+abbrev pub JoinsAt : Table → Task → KeptStage → Name → Type 0
+JoinsAt program t (kept.Going machine) f = (at : Spot) × (next program machine.body machine.values machine.inside machine.answers machine.fuel ≡ halt.Ask (request.Join f) at)
+JoinsAt program t (kept.Closing closing) f = IsToJoin t closing.next f
+JoinsAt program t (kept.Ended ended) f = ⊥
 
 -- what the join of a child comes to that the task knows
 abbrev pub IsMetBy : Task → Task → Name → Met → Type 0

@@ -23,7 +23,7 @@ use Rattle.task_fork_join.specs.Step.{IsStep}
 use Rattle.txn_snapshot.specs.SnapshotTask.{AreAmong}
 use Rattle.value_core.specs.declared.code.Code.TheVariants as code
 use Rattle.value_core.specs.declared.value.Value.{Value as Datum}
-use Rattle.value_core.specs.Named.{Name, Named, named}
+use Rattle.value_core.specs.Named.{Name, Named, is_among, named}
 use Rattle.value_core.specs.Place.{Spot}
 
 -- the machine evaluates a body of that transaction
@@ -53,10 +53,12 @@ pub record IsMember (start : Start) (reads : List Name) (t : Task) : Type 0 wher
 abbrev pub AreMembers : Start → List Name → Named Task → Type 0
 AreMembers start reads tasks = (name : Name) (t : Task) → named name tasks ≡ Some t → IsMember start reads t
 
--- The attempt runs that transaction, whose dosync stands at that place, on these refs, where these plain tasks are finished.
+-- The attempt runs that transaction, whose dosync stands at that place, on these refs, where these plain tasks are finished. Each ref that
+-- it has read has a value there.
 pub record IsRun (start : Start) (at : Spot) (base : Name → Option Datum) (finished : Name → Option Datum) (tree : Attempt) : Type 0 where
   pub runs : Runs start base finished (tasks_of tree.tasks) tree.reads
   pub members : AreMembers start tree.reads tree.tasks
+  pub read_there : (ref : Name) → is_among ref tree.reads ≡ true → IsSome (base ref)
   pub root : tree.root ≡ start.name
   pub actor : tree.actor ≡ start.actor
   pub fuel : tree.fuel ≡ start.fuel

@@ -1,5 +1,6 @@
 pub mod Changes
 pub mod Contents
+pub mod Forgotten
 pub mod Lending
 pub mod Nexts
 pub mod Noting

@@ -7,8 +7,8 @@ use Rattle.std.proofs.lemmas.List.Sums.{sum_by-set}
 use Rattle.piece_table.specs.Table.{AreTied as AreTiedIn, Table}
 use Rattle.record_pool.specs.Tickets.{IsPut}
 use Rattle.record_pool.specs.Pool.{find}
-use Rattle.unit_table.specs.Board.{Board, SameClaims, marks_ready, name_in, piece_at}
-use Rattle.unit_table.specs.Keeping.{HasSlot, IsFlagged, IsKept, IsMarkedAs, IsPlace, IsSettled, IsWokenOrSame, NoneWaits, SameSlots, board_of, need_at, slot_at, waiting_count, waits_for}
+use Rattle.unit_table.specs.Board.{Board, NoneWaits, SameClaims, marks_ready, name_in, piece_at}
+use Rattle.unit_table.specs.Keeping.{HasSlot, IsFlagged, IsKept, IsMarkedAs, IsPlace, IsSettled, IsWokenOrSame, SameSlots, board_of, need_at, slot_at, waiting_count, waits_for}
 use Rattle.unit_table.specs.Piece.{awaited, is_for, mark_in, marked, says_ready, with_mark, woken}
 use Rattle.unit_table.specs.declared.mark.Mark.{Mark}
 use Rattle.unit_table.specs.declared.mark.Mark.TheVariants as mark

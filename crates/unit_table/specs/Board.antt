@@ -7,7 +7,7 @@ use Rattle.std.specs.Option.{IfSome, IsSome, option_and_then, option_map}
 use Rattle.piece_table.specs.Table.{Table, is_free, table_code}
 use Rattle.piece_table.specs.declared.piece.Piece.{Piece as Kept}
 use Rattle.record_pool.specs.Pool.{find, next_of}
-use Rattle.unit_table.specs.Piece.{actor_in, awaited, beside, goes_on, mark_in, marked, says_ready, unit_in}
+use Rattle.unit_table.specs.Piece.{actor_in, awaited, beside, goes_on, is_for, mark_in, marked, says_ready, unit_in}
 use Rattle.unit_table.specs.contracts.record.Record as record_row
 use Rattle.unit_table.specs.declared.mark.Mark.{Mark}
 use Rattle.unit_table.specs.declared.piece.Piece.{Piece}
@@ -150,3 +150,7 @@ pub record IsMarked (name : Name) (mark : Mark) (old new : Board) : Type 0 where
 pub record AreTied (b : Board) : Type 0 where
   pub lends : (claim : Ticket) (name : Name) → lent_to b claim ≡ Some name → lent_at b name ≡ Some claim
   pub lent : (claim : Ticket) (name : Name) → lent_at b name ≡ Some claim → lent_to b claim ≡ Some name
+
+-- nothing waits for the finish of the name
+abbrev pub NoneWaits : Name → Board → Type 0
+NoneWaits name b = (other : Name) (p : Piece) → piece_at b other ≡ Some p → is_for name (awaited (mark_in p)) ≡ false

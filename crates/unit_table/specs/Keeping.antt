@@ -1,5 +1,5 @@
 -- How pieces are kept. No public clause speaks of it.
-use Rattle.std.specs.Prelude.{◌≡◌, ◌≢◌, ◌⊎◌, ◌<◌, ◌≤◌, ℕ, Bool, List, Option, None, Some, count_by, false, is_some, length, slice_set, true}
+use Rattle.std.specs.Prelude.{◌≡◌, ◌≢◌, ◌⊎◌, ◌<◌, ◌≤◌, ℕ, Bool, List, Option, None, Some, cond, count_by, false, is_some, length, slice_set, true}
 use Rattle.std.specs.declared.ops.Bound.{Bound}
 use Rattle.std.specs.declared.ops.Bound.TheVariants.{Excluded, Unbounded}
 use Rattle.std.specs.Option.{IfSome, IsSome, option_and_then, option_map}
@@ -9,14 +9,14 @@ use Rattle.piece_table.specs.declared.piece.Piece.{Piece as Kept}
 use Rattle.record_pool.specs.Pool.{find}
 use Rattle.slot_set.specs.SlotSet.{has_slot}
 use Rattle.unit_table.specs.Board.{Board, HasPlace, is_unfinished, marks_ready, name_in, piece_at}
-use Rattle.unit_table.specs.Piece.{awaited, is_for, mark_in, marked, woken}
+use Rattle.unit_table.specs.Piece.{awaited, mark_in, marked, woken}
 use Rattle.unit_table.specs.declared.mark.Mark.{Mark}
 use Rattle.unit_table.specs.declared.mark.Mark.TheVariants as mark
 use Rattle.unit_table.specs.declared.mark.Work.TheVariants as work
 use Rattle.unit_table.specs.declared.piece.Piece.{Piece}
 use Rattle.unit_table.specs.declared.places.Places.{Places}
 use Rattle.unit_table.specs.declared.record.Record.{Record}
-use Rattle.value_core.specs.Named.{IsChanged, Name, Named, named}
+use Rattle.value_core.specs.Named.{IsChanged, Name, Named, named, same_name}
 use Rattle.value_core.specs.declared.ticket.Ticket.{Ticket}
 use Rattle.wait_lists.specs.WaitLists.{need_of}
 
@@ -102,6 +102,24 @@ pub record KeepsSlots (old new : Board) : Type 0 where
   pub kept : (name : Name) → HasPlace old name → slot_at new.records name ≡ slot_at old.records name
   pub near : (name : Name) (slot : ℕ) → slot_at new.records name ≡ Some slot → HasPlace old name ⊎ (slot ≤ length old.table.pieces.places)
 
+-- each place keeps its slot, or is given up, where nothing stood there
+pub record LosesSlots (old new : Board) : Type 0 where
+  pub kept : (name : Name) (slot : ℕ) → slot_at new.records name ≡ Some slot → slot_at old.records name ≡ Some slot
+  pub lost : (name : Name) (slot : ℕ) → slot_at old.records name ≡ Some slot → (slot_at new.records name ≡ Some slot) ⊎ (piece_at old name ≡ None)
+
+-- the place under the name is taken out, and the others stay
+abbrev pub IsPlaceTaken : Name → Named Record → Named Record → Type 0
+IsPlaceTaken name old new = (other : Name) → named other new ≡ cond (same_name name other) None (named other old)
+
+-- the place under the name has that ticket, nothing stands there, and nothing waits for its slot
+pub record IsSpare (b : Board) (waits : List (Option ℕ)) (name : Name) (ticket : Ticket) : Type 0 where
+  pub there : named name b.records ≡ Some (record { ticket = ticket; piece = None })
+  pub free : (slot : ℕ) → need_of waits slot ≢ Some ticket.slot
+
+-- where the name has a place, something stands there, or something waits for its slot
+abbrev pub IsInUse : Board → List (Option ℕ) → Name → Type 0
+IsInUse b waits name = IfSome (named name b.records) (λ (r : Record). IsSome r.piece ⊎ ((slot : ℕ) × (need_of waits slot ≡ Some r.ticket.slot)))
+
 -- the piece of the ticket has that flag and is lent no more
 pub record IsFlagged (old new : Table) (ticket : Ticket) (is_ready : Bool) : Type 0 where
   pub put : IsPut old.pieces new.pieces ticket (Some (record { is_ready = is_ready; lent = None }))
@@ -155,7 +173,3 @@ waiting_count waits = count_by is_some waits
 -- what stands under each name is what stood there, or is woken
 abbrev pub IsWokenOrSame : Name → Board → Board → Type 0
 IsWokenOrSame name old new = (other : Name) → (piece_at new other ≡ piece_at old other) ⊎ (piece_at new other ≡ option_map (woken name) (piece_at old other))
-
--- nothing waits for the finish of the name
-abbrev pub NoneWaits : Name → Board → Type 0
-NoneWaits name b = (other : Name) (p : Piece) → piece_at b other ≡ Some p → is_for name (awaited (mark_in p)) ≡ false

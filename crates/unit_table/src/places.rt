@@ -1,8 +1,8 @@
-ghost use Rattle.std.specs.Prelude.{◌≡◌, ◌<◌, ◌↔◌, ℕ, None, Some, IfNone, IfOk, IfSome, IsOk, IsTrue, OnErr, OnOk, false, length, true};
+ghost use Rattle.std.specs.Prelude.{◌≡◌, ◌≢◌, ◌<◌, ◌↔◌, ℕ, None, Some, IfNone, IfOk, IfSome, IsOk, IsTrue, OnErr, OnOk, false, length, true};
 ghost use Rattle.std.specs.Option.{IsSome, option_and_then, option_copied};
 ghost use Rattle.record_pool.specs.Pool.{find as found};
-ghost use Rattle.unit_table.specs.Board.{actor_at, is_ready, lent_to, mark_at, name_in, piece_at, unit_at, CanWait, HasPlace, IsLent, IsMarked, IsPutAt, IsUnlent, SameClaims, SamePieces};
-ghost use Rattle.unit_table.specs.Keeping.{board_of, need_at, ticket_at, IsEmptyPlace, IsKept, IsNoSlotMade, IsNoted, IsSlotMade, KeepsSlots, SameSlots};
+ghost use Rattle.unit_table.specs.Board.{actor_at, is_ready, lent_to, mark_at, name_in, piece_at, unit_at, CanWait, HasPlace, IsLent, IsMarked, IsPutAt, IsUnlent, NoneWaits, SameClaims, SamePieces};
+ghost use Rattle.unit_table.specs.Keeping.{board_of, need_at, ticket_at, IsEmptyPlace, IsInUse, IsKept, IsNoSlotMade, IsNoted, IsSlotMade, IsSpare, KeepsSlots, LosesSlots, SameSlots};
 ghost use Rattle.unit_table.specs.Piece.{awaited, mark_in, marked};
 ghost use Rattle.value_core.specs.Named.{named, IsChanged, Name as Called};
 ghost use Rattle.unit_table.specs.declared.piece.Piece.TheVariants as piece;
@@ -12,7 +12,8 @@ ghost use Rattle.wait_lists.specs.WaitLists.{need_of};
 use crate::mark::{Mark, WaitOn};
 use crate::piece::Piece;
 use crate::record::{
-    Record, fill, move_unit, put_mark, put_place, set_actor, slot_in, ticket_in, turn_into,
+    Record, fill, move_unit, put_mark, put_place, set_actor, slot_in, take_place, ticket_in,
+    turn_into,
 };
 use crate::unit::Becoming;
 use crate::waking::wake_all;
@@ -241,6 +242,37 @@ impl Places {
         }
     }
 
+    /// Gives up the place under the name, where nothing stands there and nothing waits for its finish. It takes no memory.
+    pub(crate) fn forget(&mut self, name: &Name)
+        requires kept { IsKept (board_of self.old) self.old.waits }
+        ensures kept { IsKept (board_of self.new) self.new.waits }
+        ensures pieces { SamePieces (board_of self.old) (board_of self.new) }
+        ensures claims { SameClaims (board_of self.old) (board_of self.new) }
+        ensures gone { piece_at (board_of self.old) name.now ≡ None → NoneWaits name.now (board_of self.old) → HasPlace (board_of self.new) name.now → ⊥ }
+        ensures places { (other : Called) → (other ≡ name.now → ⊥) → HasPlace (board_of self.old) other → HasPlace (board_of self.new) other }
+        ensures slots { LosesSlots (board_of self.old) (board_of self.new) }
+    {
+        if let Some(ticket) = self.spare(name) {
+            take_place(&mut self.records, name);
+            take_name(&mut self.names, ticket.slot);
+            self.table.remove(ticket);
+            self.table.claims_are_tied();
+        }
+    }
+
+    /// The ticket of the place under the name, where nothing stands there and nothing waits for its finish.
+    fn spare(&self, name: &Name) -> Option<Ticket>
+        ensures some { IfSome result (IsSpare (board_of self.now) self.now.waits name.now) }
+        ensures none { IfNone result (IsInUse (board_of self.now) self.now.waits name.now) }
+    {
+        let place = find(&self.records, name)?;
+        let is_awaited = self.waits.is_awaited(place.ticket.slot);
+        if place.piece.is_some() || is_awaited {
+            return None;
+        }
+        Some(place.ticket)
+    }
+
     /// The name of something that is ready.
     pub(crate) fn first_ready(&self) -> Option<&Name>
         requires { IsKept (board_of self.now) self.now.waits }
@@ -329,6 +361,15 @@ fn fill_slot(
     match names.get(slot) {
         Some(Some(name)) => fill(records, name, piece),
         _ => unreachable!(),
+    }
+}
+
+/// The slot has no name any more.
+fn take_name(names: &mut Vec<Option<Name>>, slot: usize)
+    ensures { (other : ℕ) → other ≢ slot → name_in names.new.items other ≡ name_in names.old.items other }
+{
+    if slot < names.len() {
+        names[slot] = None;
     }
 }
 

@@ -2,7 +2,7 @@ ghost use Rattle.std.specs.Prelude.{◌≡◌, None, Some, IfNone, IfSome, OnErr
 ghost use Rattle.std.specs.Option.{option_copied, option_map};
 ghost use Rattle.std.specs.Range.Bound.{bound_map};
 ghost use Rattle.unit_table.specs.Board.{piece_in, ComesAfter, IsNextIn};
-ghost use Rattle.unit_table.specs.Keeping.{after_bound, slot_at, ticket_at, IsMarkedAs};
+ghost use Rattle.unit_table.specs.Keeping.{after_bound, slot_at, ticket_at, IsMarkedAs, IsPlaceTaken};
 ghost use Rattle.unit_table.specs.Piece.{becoming, moved, with_mark, with_state};
 ghost use Rattle.value_core.specs.Named.{with_named, IsChanged, Name as Called};
 
@@ -84,6 +84,13 @@ pub(crate) fn put_place(
         piece: None,
     };
     put(records, name, place)
+}
+
+/// Takes the place under the name out, where there is one. It takes no memory.
+pub(crate) fn take_place(records: &mut BTreeMap<Name, Record>, name: &Name)
+    ensures { IsPlaceTaken name.now records.old.entries records.new.entries }
+{
+    let _place = records.remove(name);
 }
 
 /// Puts the piece into the place, where there is one. It takes no memory.

@@ -1,6 +1,6 @@
 ghost use Rattle.std.specs.Prelude.{◌≡◌, ◌↔◌, None, Some, IfNone, IfOk, IfSome, IsOk, IsTrue, OnErr, OnOk, false, true};
 ghost use Rattle.std.specs.Option.{IsSome, option_copied};
-ghost use Rattle.unit_table.specs.Board.{actor_at, is_ready, is_unfinished, lent_to, mark_at, piece_at, unit_at, AreTied, CanWait, ComesAfter, HasPlace, IsLent, IsMarked, IsNextAfter, IsPutAt, IsUnlent, LentAreReady, SameClaims, SamePieces};
+ghost use Rattle.unit_table.specs.Board.{actor_at, is_ready, is_unfinished, lent_to, mark_at, piece_at, unit_at, AreTied, CanWait, ComesAfter, HasPlace, IsLent, IsMarked, IsNextAfter, IsPutAt, IsUnlent, LentAreReady, NoneWaits, SameClaims, SamePieces};
 ghost use Rattle.unit_table.specs.declared.mark.Mark.TheVariants as mark;
 ghost use Rattle.unit_table.specs.declared.mark.Work.TheVariants as work;
 ghost use Rattle.unit_table.specs.declared.piece.Piece.TheVariants as piece;
@@ -232,6 +232,16 @@ impl Units {
     {
         self.places.mark(name, mark);
         note(&self.places, &mut self.unfinished, name);
+    }
+
+    /// Gives up the place under the name, where nothing stands there and nothing waits for its finish. It takes no memory.
+    pub fn forget(&mut self, name: &Name)
+        ensures pieces { SamePieces self.old self.new }
+        ensures claims { SameClaims self.old self.new }
+        ensures gone { piece_at self.old name.now ≡ None → NoneWaits name.now self.old → HasPlace self.new name.now → ⊥ }
+        ensures places { (other : Called) → (other ≡ name.now → ⊥) → HasPlace self.old other → HasPlace self.new other }
+    {
+        self.places.forget(name);
     }
 
     /// Whether something can be done with what stands under the name, and it is not lent.

@@ -1,8 +1,8 @@
 ghost use Rattle.std.specs.Prelude.{◌≡◌, ◌⊎◌, ◌<◌, IfSome, Some, false, true};
 ghost use Rattle.std.specs.Option.{IsSome, option_map};
 ghost use Rattle.record_pool.specs.Pool.{find};
-ghost use Rattle.unit_table.specs.Board.{name_in, piece_at, HasPlace, SameClaims};
-ghost use Rattle.unit_table.specs.Keeping.{board_of, slot_at, waiting_count, IsKept, IsSettled, IsWokenOrSame, NoneWaits, SameSlots};
+ghost use Rattle.unit_table.specs.Board.{name_in, piece_at, HasPlace, NoneWaits, SameClaims};
+ghost use Rattle.unit_table.specs.Keeping.{board_of, slot_at, waiting_count, IsKept, IsSettled, IsWokenOrSame, SameSlots};
 ghost use Rattle.unit_table.specs.Piece.{woken};
 ghost use Rattle.value_core.specs.Named.{named, Name as Called};
 

@@ -93,6 +93,31 @@ fn is_dropped(units: &mut Units, alloc: Global, task: &Name) -> Result<bool, All
     Ok(is_added && is_gone && add_task(units, alloc, task)?)
 }
 
+// A task that is dropped and forgotten can be added anew; one that stands stays.
+fn a_forgotten_task_is_gone(alloc: Global) -> Result<bool, AllocError> {
+    let mut units = Units::new(alloc);
+    is_forgotten(
+        &mut units,
+        alloc,
+        &name(alloc, "0.1")?,
+        &name(alloc, "0.2")?,
+    )
+}
+
+fn is_forgotten(
+    units: &mut Units,
+    alloc: Global,
+    task: &Name,
+    other: &Name,
+) -> Result<bool, AllocError> {
+    let are_added = add_task(units, alloc, task)? && add_task(units, alloc, other)?;
+    let is_gone = mark(units, task, Mark::Dropped);
+    units.forget(task);
+    units.forget(other);
+    let stays = units.piece(task).is_none() && units.is_ready(other);
+    Ok(are_added && is_gone && stays && add_task(units, alloc, task)? && units.is_ready(task))
+}
+
 // An actor rests until it is marked.
 fn an_actor_rests(alloc: Global) -> Result<bool, AllocError> {
     let actor = name(alloc, "0.0")?;
@@ -142,6 +167,7 @@ fn pieces_are_lent_woken_and_dropped(rt: HostRuntime) -> Result<(), Fail> {
     assert!(rt; a_task_is_lent(rt.alloc())?);
     assert!(rt; a_finish_wakes(rt.alloc())?);
     assert!(rt; a_dropped_task_is_gone(rt.alloc())?);
+    assert!(rt; a_forgotten_task_is_gone(rt.alloc())?);
     assert!(rt; an_actor_rests(rt.alloc())?);
     Ok(())
 }

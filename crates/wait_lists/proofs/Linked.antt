@@ -1,10 +1,10 @@
 -- The links stay sound where slots get room, wait, and wait no more.
-use Rattle.std.proofs.Common.{◌≡◌, ◌≢◌, ℕ, ◌<◌, ◌≤◌, List, [], ◌∷◌, length, get_or, set, Option, Some, None, refl, sym, ap, subst, ◌∙◌, inl, inr, arith, length-set}
+use Rattle.std.proofs.Common.{◌≡◌, ◌≢◌, ℕ, ◌<◌, ◌≤◌, List, [], ◌∷◌, length, get_or, set, Option, Some, None, refl, sym, ap, subst, ◌∙◌, inl, inr, arith, length-set, false, true, true≢false}
 use Rattle.std.proofs.lemmas.Bool.{cases_eq, cases_lt}
 use Rattle.std.proofs.lemmas.List.{get_or-set_same, get_or-set_other, get_or_past}
 use Rattle.std.proofs.lemmas.Option.{slice_get_read, get_or_from_slice_get}
-use Rattle.std.specs.Prelude.{IfSome}
-use Rattle.wait_lists.specs.Links.{link, IsAmong, EachOnce, IsChain, IsLinked, AreLinked, IsPutFirst, IsUnlinked}
+use Rattle.std.specs.Prelude.{IfSome, is_some}
+use Rattle.wait_lists.specs.Links.{link, IsAmong, IsChain, IsLinked, AreLinked, IsPutFirst, IsUnlinked}
 use Rattle.wait_lists.specs.WaitLists.{need_of}
 use Rattle.wait_lists.proofs.Chains.{IsChain-agrees, IsChain-behind, before_within, next_among, none_is_not_some, same_in_some, without}
 
@@ -57,6 +57,15 @@ module _ (waits first next before : List (Option ℕ)) (linked : AreLinked waits
       by_list : (slots : List ℕ) → IsChain (link next) (link before) None (link first need) slots → IsAmong slot slots → ⊥
       by_list [] chain among = among
       by_list (x ∷ rest) chain among = none_is_not_some (link first need) x none chain.0
+
+  -- so a slot waits exactly where one is first
+  pub some_first : (need : ℕ) (head : Option ℕ) → head ≡ link first need → is_some head ≡ true → (slot : ℕ) × (need_of waits slot ≡ Some need)
+  some_first need None is some = absurd (true≢false (sym some))
+  some_first need (Some slot) is some = (slot, first_waits need slot (sym is))
+
+  pub none_first : (need : ℕ) (head : Option ℕ) → head ≡ link first need → is_some head ≡ false → (slot : ℕ) → need_of waits slot ≢ Some need
+  none_first need None is none = none_waits need (sym is)
+  none_first need (Some slot) is none = absurd (true≢false none)
 
   module _ (slot need : ℕ) (waits_for : need_of waits slot ≡ Some need) where
     -- what a slot waits for has a list

@@ -20,6 +20,16 @@ pub(crate) fn grow(links: &mut Links, count: usize) -> Result<(), AllocError>
     links.resize(count, None)
 }
 
+/// The link at the slot. None past the end.
+pub(crate) fn link_at(links: &Links, slot: usize) -> Option<usize>
+    ensures { result ≡ link links.now.items slot }
+{
+    match links.get(slot) {
+        Some(link) => *link,
+        None => None,
+    }
+}
+
 /// Puts the slot before those that wait for the need.
 pub(crate) fn put_first(
     first: &mut Links,

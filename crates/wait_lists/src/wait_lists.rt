@@ -1,7 +1,7 @@
-ghost use Rattle.std.specs.Prelude.{◌≡◌, ◌≢◌, ℕ, ◌≤◌, ◌<◌, [], length, None, Some, slice_set, IfSome, IfNone, OnOk, OnErr};
+ghost use Rattle.std.specs.Prelude.{◌≡◌, ◌≢◌, ℕ, ◌≤◌, ◌<◌, [], length, None, Some, slice_set, IfSome, IfNone, OnOk, OnErr, false, true};
 ghost use Rattle.wait_lists.specs.WaitLists.{need_of};
 
-use crate::links::{Links, grow, put_first, unlink};
+use crate::links::{Links, grow, link_at, put_first, unlink};
 use std::alloc::{AllocError, Global};
 use std::marker::Model;
 
@@ -62,10 +62,15 @@ impl WaitLists {
     pub fn need_of(&self, slot: usize) -> Option<usize>
         ensures { result ≡ need_of self.now slot }
     {
-        match self.waits.get(slot) {
-            Some(need) => *need,
-            None => None,
-        }
+        link_at(&self.waits, slot)
+    }
+
+    /// Whether some slot waits for the need. It takes no memory.
+    pub fn is_awaited(&self, need: usize) -> bool
+        ensures some { result ≡ true → (slot : ℕ) × (need_of self.now slot ≡ Some need) }
+        ensures none { result ≡ false → (slot : ℕ) → need_of self.now slot ≢ Some need }
+    {
+        link_at(&self.first, need).is_some()
     }
 
     /// The slot waits for the need from now on. It takes no memory.

@@ -8,7 +8,7 @@ use Rattle.ref_store.specs.Store.{ArePruned}
 use Rattle.serial_model.specs.Step.{next_made}
 use Rattle.shared_world.specs.declared.given.Given.{Given}
 use Rattle.shared_world.specs.declared.given.Given.TheVariants as given
-use Rattle.shared_world.specs.rows.Pieces.{IsMarkedUnit, IsUnitAt, task_gone}
+use Rattle.shared_world.specs.rows.Pieces.{IsMarkedUnit, task_gone}
 use Rattle.shared_world.specs.Shared.{actor_of, Shared, unit_state}
 use Rattle.shared_world.specs.Stands.{start_of}
 use Rattle.task_fork_join.specs.Attempt.{Attempt, IsNew, IsRootLog}

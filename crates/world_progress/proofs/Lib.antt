@@ -1,0 +1,12 @@
+pub mod Around
+pub mod Begun
+pub mod Blocked
+pub mod First
+pub mod Mailed
+pub mod Now
+pub mod Progress
+pub mod Searching
+pub mod Sizes
+pub mod Staying
+pub mod Trees
+pub mod Units
