@@ -6,18 +6,13 @@ use Rattle.std.proofs.MapsCrossing as maps
 use Rattle.actor_mailbox.specs.contracts.mailbox.Mailbox as mailbox
 use Rattle.actor_mailbox.specs.contracts.message.Message as message
 use Rattle.actor_mails.specs.contracts.mails.Mails as mails
-use Rattle.value_core.proofs.Crossing.{name_send, value_send, value_sync, values_send}
+use Rattle.value_core.proofs.Crossing.{name_send, values_send, values_sync}
 use Rattle.value_core.proofs.name.Name.TheSendSync as name
-use Rattle.value_core.specs.contracts.shared.Shared as shared
-use Rattle.value_core.specs.contracts.value.Value as value
 
 -- what a type's parts give it
 ruleset sends = (variants_send, declared_send, as_row_send, crosses, sendable)
 
 ruleset syncs = (variants_sync, declared_sync, as_row_sync, crosses, sendable)
-
-values_sync : IsSync (shared.the_row value.the_row)
-values_sync = search (value_send, value_sync, crosses, sendable) depth 60 fits 20000
 
 pub message_send : IsSend message.the_row
 message_send = search (name_send, values_send, sends) depth 60 fits 20000

@@ -165,7 +165,7 @@ fn turn_on(
 {
     let units = kept.made.checked_add(1).ok_or(AllocError)?;
     let body = kept.program.behaviour(actor.behaviour).body;
-    let values = joined(alloc, &actor.state, &message.args)?;
+    let values = joined(&actor.state, &message.args)?;
     let turn = name.child(alloc, actor.turns)?;
     let turner = name.copy(alloc)?;
     let busy = in_turn(actor)?;
@@ -204,13 +204,11 @@ fn begin_turn(kept: &mut Kept, alloc: Global, name: &Name, marks: Marks, turning
 }
 
 /// The state of an actor, and behind it the arguments of a message.
-fn joined(alloc: Global, state: &Values, message: &Values) -> Result<Values, AllocError>
+fn joined(state: &Values, message: &Values) -> Result<Values, AllocError>
     ensures { IfOk result (λ values. values ≡ state.now ++ message.now) }
 {
     let mut values = state.copy()?;
-    for value in message.items() {
-        values.add(value.copy(alloc)?)?;
-    }
+    values.append(message)?;
     Ok(values)
 }
 

@@ -4,41 +4,39 @@ use Rattle.std.specs.Prelude.{Err, IfSome, None, Ok, Result, Some}
 use Rattle.std.specs.declared.alloc.AllocError.{AllocError}
 use Rattle.attempt_commits.proofs.Committing.{at-attempt}
 use Rattle.attempt_steps.proofs.Ending.{acts-stay, goes-end}
-use Rattle.attempt_steps.specs.declared.deciding.Changed.{Changed}
 use Rattle.attempt_commits.specs.Committing.{CommitsOr, IsTrying}
 use Rattle.attempt_steps.specs.Deciding.{DecidedOr, IsValidated, SettledOr}
 use Rattle.attempt_steps.specs.Ending.{FoundEnd}
 use Rattle.shared_world.specs.Gave.{ended_by}
 use Rattle.world_steps.specs.Rows.{EndsOr}
-use Rattle.attempt_steps.specs.Undoing.{AbortsOr}
+use Rattle.attempt_steps.specs.Undoing.{HasConflicted}
 use Rattle.serial_model.specs.declared.end.End.{End}
 use Rattle.serial_model.specs.declared.end.End.TheVariants as ending
 use Rattle.shared_world.specs.declared.given.Given.{Given}
 use Rattle.shared_world.specs.rows.Pieces.{Ends, but_gone}
 use Rattle.shared_world.specs.rows.Tasks.{EndGives, conflicts, valid}
-use Rattle.shared_world.specs.rows.Undoing.{Aborts}
 use Rattle.shared_world.specs.Shared.{Shared, claimed, is_going}
 use Rattle.task_fork_join.specs.Attempt.{Attempt, end_at}
 use Rattle.task_fork_join.specs.declared.task_end.TaskEnd.{TaskEnd}
 use Rattle.task_fork_join.specs.declared.task_end.TaskEnd.TheVariants as end
+use Rattle.txn_commit.specs.declared.conflict.Conflict.{Conflict}
 use Rattle.value_core.specs.declared.code.Code.{Code}
 use Rattle.value_core.specs.declared.value.Value.{Value}
 use Rattle.value_core.specs.Named.{Name, named}
 use Rattle.value_core.specs.Place.{Spot}
 
 -- a conflict
-pub decided-abort : (old new : Shared) (owner : Name) (c : Changed) (result : Result Given AllocError) → IsTrying old owner → IfSome (named owner old.attempts) (λ tree. IsValidated old.versions tree (Some c))
-    → AbortsOr old owner c.name c.version new result → DecidedOr old owner new result
-decided-abort old new owner c (Err e) trying changed r = r
-decided-abort old new owner c (Ok found) trying changed r = record {
+pub decided-abort : (old new : Shared) (owner : Name) (c : Conflict) (found : Given) → IsTrying old owner → IfSome (named owner old.attempts) (λ tree. IsValidated old.versions tree (Some c))
+    → HasConflicted old owner c new found → DecidedOr old owner new (Ok found)
+decided-abort old new owner c found trying changed r = record {
   row = λ task x tree ended there attempt is_ended.
-      let is = at-attempt (named owner old.attempts) (λ (t : Attempt). IsValidated old.versions t (Some c)) tree attempt changed in
+      let for = r.row x tree there attempt in
       conflicts trying.level (record {
-        conflict = is.conflict;
-        first = is.first;
-        ref = c.name;
-        ref_is = is.name_is;
-        aborts = subst (λ v. Aborts old owner x tree c.name v found new) is.version_is (r.row x tree there attempt);
+        conflict = c;
+        first = at-attempt (named owner old.attempts) (λ (t : Attempt). IsValidated old.versions t (Some c)) tree attempt changed;
+        ref = for.ref;
+        ref_is = for.ref_is;
+        aborts = for.aborts;
       });
   claims = r.claims;
 }

@@ -1,5 +1,7 @@
 pub mod Again
 pub mod Children
+pub mod Claimed
+pub mod Conflicts
 pub mod Decided
 pub mod Ended
 pub mod Ending

@@ -21,7 +21,7 @@ use Rattle.attempt_steps.specs.Deciding.{DecidedOr}
 use Rattle.attempt_steps.specs.Tasks as tasks
 use Rattle.attempt_steps.specs.Tasks.{ComesAfter, DecidedOrWaits, DecidesOr, GoesOnOr, HasCome, HasDecidedAt, HasDoneNoMore, HasForkedTask, HasRoomFor, HasStepped, IsOfStep, IsReadied, IsRoomFor, IsTaskAt, IsTaskIn, MissesOr, StepPosted, TaskMarked, TaskWaits, is_onward}
 use Rattle.attempt_steps.specs.Waiting.{EndWaitsOr, HasWaited, TurnWaitsOr}
-use Rattle.attempt_steps.specs.Undoing.{AbortsOr}
+use Rattle.attempt_steps.specs.Undoing.{HasAborted}
 use Rattle.ref_store.specs.declared.version.Version.{Version}
 use Rattle.ref_store.specs.Store.{versions_of}
 use Rattle.ref_store.specs.Version.{newest}
@@ -98,10 +98,9 @@ pub has-attempt : (s : Shared) (owner task : Name) → HasTask s owner task → 
 has-attempt s owner task has = record { unit = has.is.unit; there = has.is.unit_there; tree = has.tree; attempt = has.is.attempt }
 
 -- it is the newest, which the snapshot does not have
-pub missed : (old new : Shared) (owner task ref : Name) (number : ℕ) (result : Result Given AllocError) → HasTask old owner task → Some number ≡ option_map (λ (v : Version). v.number) (newest (versions_of old.versions ref))
-    → AbortsOr old owner ref number new result → MissesOr old owner task ref new result
-missed old new owner task ref number (Err e) has is r = r
-missed old new owner task ref number (Ok found) has is r = record {
+pub missed : (old new : Shared) (owner task ref : Name) (number : ℕ) (found : Given) → HasTask old owner task → Some number ≡ option_map (λ (v : Version). v.number) (newest (versions_of old.versions ref))
+    → HasAborted old owner ref number new found → MissesOr old owner task ref new (Ok found)
+missed old new owner task ref number found has is r = record {
   row = λ x tree there attempt. on (newest (versions_of old.versions ref)) is x tree (r.row x tree there attempt);
   claims = undone-ends old new owner task ref number has.is.unit has.tree found has.is (r.row has.is.unit has.tree has.is.unit_there has.is.attempt) r.claims;
 }

@@ -1,9 +1,8 @@
 -- Attempts whose root is at its end.
 use Rattle.std.specs.Prelude.{◌≡◌, List, Err, None, Ok, Option, Result, Some, All, false}
 use Rattle.std.specs.declared.alloc.AllocError.{AllocError}
-use Rattle.std.specs.List.{slice_get}
-use Rattle.attempt_steps.specs.declared.deciding.Changed.{Changed}
 use Rattle.attempt_steps.specs.Ending.{FoundEnd}
+use Rattle.attempt_steps.specs.Tasks.{IsTaskAt}
 use Rattle.world_steps.specs.Kept.{IsSameBut}
 use Rattle.ref_store.specs.declared.version.Version.{Version}
 use Rattle.shared_world.specs.declared.given.Given.{Given}
@@ -33,17 +32,23 @@ abbrev pub DecidedOr : Shared → Name → Shared → Result Given AllocError �
 DecidedOr old owner new (Ok found) = HasDecided old owner new found
 DecidedOr old owner new (Err e) = IsSameBut old new
 
--- the first ref that was read and has a version above the snapshot
-pub record IsChangedFor (versions : Named (List Version)) (tree : Attempt) (c : Changed) : Type 0 where
-  pub conflict : Conflict
-  pub first : IsFirstConflict tree.reads versions tree.snapshot conflict
-  pub name_is : slice_get tree.reads conflict.index ≡ Some c.name
-  pub version_is : c.version ≡ conflict.version
-
--- there is such a ref, or none
-abbrev pub IsValidated : Named (List Version) → Attempt → Option Changed → Type 0
+-- the first ref that was read and has a version above the snapshot; or there is none
+abbrev pub IsValidated : Named (List Version) → Attempt → Option Conflict → Type 0
 IsValidated versions tree None = All (IsUnchanged versions tree.snapshot) tree.reads
-IsValidated versions tree (Some c) = IsChangedFor versions tree c
+IsValidated versions tree (Some conflict) = IsFirstConflict tree.reads versions tree.snapshot conflict
+
+-- the unit has an attempt whose root is at its end
+pub record IsEndedAt (attempts : Named Attempt) (owner : Name) : Type 0 where
+  pub tree : Attempt
+  pub attempt : named owner attempts ≡ Some tree
+  pub ended : TaskEnd
+  pub at_end : end_at tree ≡ Some ended
+
+-- that is a task, and the root of the unit's attempt is at its end, which stands where the history left it
+pub record IsToDecide (s : Shared) (task owner : Name) : Type 0 where
+  pub task_at : IsTaskAt s.board task
+  pub ended_at : IsEndedAt s.attempts owner
+  pub level : named owner s.aheads ≡ None
 
 -- what a valid attempt comes to; or for want of memory nothing changes
 pub record HasSettled (old : Shared) (owner : Name) (new : Shared) (found : Given) : Type 0 where

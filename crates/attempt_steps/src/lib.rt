@@ -6,4 +6,6 @@ mod tasks;
 mod undoing;
 mod waiting;
 
+pub use deciding::to_undo;
 pub use tasks::{settle_task, step_task};
+pub use undoing::abort_claimed;

@@ -428,7 +428,7 @@ fn miss(
     ensures { MissesOr (shared_of kept.old) owner.now task.now name (shared_of kept.new) result }
 {
     match newest_number(kept, &name) {
-        Some(number) => abort(kept, alloc, owner, name, number),
+        Some(number) => Ok(abort(kept, alloc, owner, name, number)),
         None if kept.runs_ahead(owner) => wait_for_turn(kept, alloc, owner, task),
         None => Err(AllocError),
     }

@@ -3,10 +3,9 @@ use Rattle.std.proofs.Common.{◌≡◌, ◌∙◌, ◌⊎◌, Bool, true, false
 use Rattle.std.specs.Prelude.{None, Option, Some, ◌||◌, cond}
 use Rattle.actor_mailbox.specs.declared.message.Message.{Message}
 use Rattle.actor_mailbox.specs.Messages.{passes}
-use Rattle.attempt_undoing.proofs.Finding.{took-on, turn-hangs}
+use Rattle.attempt_undoing.proofs.Sought.{took-on, turn-hangs}
 use Rattle.attempt_undoing.proofs.Lists.{or-left, or-one, or-right}
-use Rattle.attempt_undoing.specs.declared.hanging.Sent.{Sent}
-use Rattle.attempt_undoing.specs.Hanging.{depends_in, effect_receiver, effect_receivers, goes_with, is_root_in, is_root_of, is_sent, next_turn, turn_on, IsAll}
+use Rattle.attempt_undoing.specs.Hanging.{Sent, depends_in, effect_receiver, effect_receivers, goes_with, is_root_in, is_root_of, is_sent, next_turn, turn_on, IsAll}
 use Rattle.serial_model.specs.declared.effect.Effect.{Effect}
 use Rattle.serial_model.specs.declared.effect.What.{What}
 use Rattle.serial_model.specs.declared.effect.What.TheVariants as what

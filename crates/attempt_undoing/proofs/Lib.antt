@@ -1,7 +1,12 @@
 pub mod AllGone
+pub mod Chain
 pub mod Claims
-pub mod Finding
+pub mod Goes
 pub mod Lists
 pub mod SendsGone
-pub mod TurnsGone
-pub mod Undone
+pub mod Sought
+pub mod Steps
+pub mod Undoes
+pub mod Unwinding
+pub mod Walk
+pub mod Whole

@@ -1,12 +1,12 @@
 -- What was sent goes, one after another.
-use Rattle.std.proofs.Common.{◌≡◌, ◌∙◌, ◌⊎◌, Bool, true, false, cond, inl, inr, List, [], ◌∷◌, refl, sym, ap, ap₂}
+use Rattle.std.proofs.Common.{◌≡◌, ◌∙◌, ◌⊎◌, ◌++◌, Bool, true, false, cond, inl, inr, List, [], ◌∷◌, refl, sym, ap, ap₂}
 use Rattle.std.specs.Option.{option_and_then, option_map}
 use Rattle.std.specs.Prelude.{MatchOption, None, Option, Some, ◌&&◌, ◌||◌, is_some, not}
 use Rattle.actor_mailbox.specs.declared.message.Message.{Message}
 use Rattle.actor_mailbox.specs.Messages.{passes, without}
 use Rattle.actor_mails.specs.Mails.{IsMailed, Mail, mail_at}
-use Rattle.attempt_undoing.specs.declared.hanging.Sent.{Sent}
-use Rattle.attempt_undoing.specs.Hanging.{depends_in, is_sent}
+use Rattle.attempt_undoing.proofs.Lists.{sent-append}
+use Rattle.attempt_undoing.specs.Hanging.{Sent, depends_in, is_sent}
 use Rattle.attempt_undoing.specs.Sends.{ActorsMarked, IsEnded, IsNewMark, IsRemarked, IsTakenLeft, SendsGone, mark_resting, marked_now}
 use Rattle.serial_model.specs.declared.actor_state.ActorState.{ActorState}
 use Rattle.shared_world.proofs.ActorPieces.{not-same}
@@ -114,13 +114,9 @@ no-sends all old now l = record {
         by None = refl
         by (Some on) = refl
 
-module _ (sent : Sent) (rest : List Sent) (now next : Shared) (gone : SendsGone (sent ∷ []) now next) where
-  both : (a on : Name) → is_sent (sent ∷ rest) a on ≡ (is_sent (sent ∷ []) a on || is_sent rest a on)
-  both a on = by (same_name a sent.to && same_name sent.on on)
-    where
-      by : (c : Bool) → (c || is_sent rest a on) ≡ ((c || false) || is_sent rest a on)
-      by true = refl
-      by false = refl
+module _ (some rest : List Sent) (now next : Shared) (gone : SendsGone some now next) where
+  both : (a on : Name) → is_sent (some ++ rest) a on ≡ (is_sent some a on || is_sent rest a on)
+  both a on = sent-append some rest a on
 
   marked-twice : (n : Name) (found : Option Piece) → marked_now next n (marked_now now n found) ≡ marked_now next n found
   marked-twice n None = refl
@@ -128,10 +124,10 @@ module _ (sent : Sent) (rest : List Sent) (now next : Shared) (gone : SendsGone 
   marked-twice n (Some (piece.Task m)) = refl
   marked-twice n (Some (piece.Actor x)) = refl
 
-  pub one-sent : (all : List Sent) (old : Shared) → SendsLeft all (sent ∷ rest) old now → SendsLeft all rest old next
-  one-sent all old l = record {
-    mails = λ a. ap (without (is_sent rest a)) (gone.mails a) ∙ without-twice (is_sent (sent ∷ []) a) (is_sent rest a) (is_sent (sent ∷ rest) a) (both a) (mail_at now.mails a) ∙ l.mails a;
-    taken = λ a. ap (message_left (is_sent rest a)) (gone.taken a) ∙ left-twice (is_sent (sent ∷ []) a) (is_sent rest a) (is_sent (sent ∷ rest) a) (both a) (named a now.taken) ∙ l.taken a;
+  pub some-sent : (all : List Sent) (old : Shared) → SendsLeft all (some ++ rest) old now → SendsLeft all rest old next
+  some-sent all old l = record {
+    mails = λ a. ap (without (is_sent rest a)) (gone.mails a) ∙ without-twice (is_sent some a) (is_sent rest a) (is_sent (some ++ rest) a) (both a) (mail_at now.mails a) ∙ l.mails a;
+    taken = λ a. ap (message_left (is_sent rest a)) (gone.taken a) ∙ left-twice (is_sent some a) (is_sent rest a) (is_sent (some ++ rest) a) (both a) (named a now.taken) ∙ l.taken a;
     pieces = λ n. gone.pieces n ∙ ap (marked_now next n) (l.pieces n) ∙ marked-twice n (piece_at old.board n);
     claims = λ t. claims t (l.claims t) (gone.claims t);
   }
@@ -145,9 +141,13 @@ module _ (sent : Sent) (rest : List Sent) (now next : Shared) (gone : SendsGone 
         now = second ∙ ends.now;
         actor = actor_now next ends.name ends.actor;
         there = gone.pieces ends.name ∙ ap (marked_now next ends.name) ends.there;
-        mail = gone.mails ends.name ∙ ap (without (is_sent (sent ∷ []) ends.name)) ends.mail;
+        mail = gone.mails ends.name ∙ ap (without (is_sent some ends.name)) ends.mail;
       })
       claims t (inr ends) (inr again) = let no : None ≡ Some again.name = sym ends.now ∙ again.was in cc
+
+-- nothing is gone where nothing was sent
+pub none-sent : (s : Shared) → ActorsMarked s → SendsGone [] s s
+none-sent s right = no-sends [] s s (all-sends [] s right)
 
 -- ---- what the code does
 -- the mark that is another one

@@ -2,15 +2,13 @@
 use Rattle.std.specs.Prelude.{◌≡◌, Bool, List, Option, None, Some, cond, false, is_some}
 use Rattle.std.specs.List.{list_any}
 use Rattle.shared_world.specs.Gave.{is_gone}
-use Rattle.shared_world.specs.rows.Attempts.{IsWithout}
 use Rattle.shared_world.specs.rows.Pieces.{but_gone}
-use Rattle.shared_world.specs.Shared.{Shared}
 use Rattle.task_fork_join.specs.Attempt.{Attempt}
 use Rattle.unit_table.specs.Board.{Board, lent_to, piece_at}
 use Rattle.unit_table.specs.declared.piece.Piece.{Piece}
 use Rattle.unit_table.specs.declared.piece.Piece.TheVariants as piece
 use Rattle.value_core.specs.declared.ticket.Ticket.{Ticket}
-use Rattle.value_core.specs.Named.{Name, Named, is_among, named}
+use Rattle.value_core.specs.Named.{Name, Named, named}
 
 -- the claims on what is gone end, and no other
 abbrev pub GoneEnds : Board → Board → Type 0
@@ -40,27 +38,3 @@ is_task_in attempts n units = list_any (λ v. has_task n (named v attempts)) uni
 abbrev pub task_gone_where : Bool → Option Piece → Option Piece
 task_gone_where gone (Some (piece.Task m)) = cond gone None (Some (piece.Task m))
 task_gone_where gone found = found
-
--- the attempt of the unit is gone with its tasks, where it has one
-pub record IsTriedGone (name : Name) (attempts : Named Attempt) (board : Board) (left : Named Attempt) (after : Board) : Type 0 where
-  pub gone : IsWithout name attempts left
-  pub pieces : (n : Name) → piece_at after n ≡ task_gone_where (has_task n (named name attempts)) (piece_at board n)
-  pub claims : GoneEnds board after
-
--- what is left of what stood under a name once these turns are gone, with the tasks of their attempts
-abbrev pub left_of : Named Attempt → List Name → Name → Option Piece → Option Piece
-left_of attempts turns n None = None
-left_of attempts turns n (Some (piece.Unit x)) = cond (is_among n turns) None (Some (piece.Unit x))
-left_of attempts turns n (Some (piece.Task m)) = cond (is_task_in attempts n turns) None (Some (piece.Task m))
-left_of attempts turns n (Some (piece.Actor x)) = Some (piece.Actor x)
-
--- what stands under a name, unless it is one of these
-abbrev pub IsBut : {X : Type 0} → List Name → Named X → Named X → Type 0
-IsBut {X} names old new = (v : Name) → named v new ≡ cond (is_among v names) None (named v old)
-
--- these turns run ahead no more, their attempts are gone, and their units and tasks, with the claims on them
-pub record TurnsGone (turns : List Name) (old new : Shared) : Type 0 where
-  pub attempts : IsBut turns old.attempts new.attempts
-  pub aheads : IsBut turns old.aheads new.aheads
-  pub pieces : (n : Name) → piece_at new.board n ≡ left_of old.attempts turns n (piece_at old.board n)
-  pub claims : GoneEnds old.board new.board

@@ -1,10 +1,8 @@
 -- What hangs on an attempt, as it is found.
-use Rattle.std.specs.Prelude.{◌≡◌, ◌&&◌, ◌||◌, ◌++◌, ◌∷◌, [], Bool, List, Option, None, Some, cond, false, flat_map, fold, map, reverse, true}
+use Rattle.std.specs.Prelude.{◌≡◌, ◌&&◌, ◌||◌, ◌∷◌, [], Bool, List, Option, None, Some, cond, false, flat_map, map, true}
 use Rattle.std.specs.List.{list_any}
 use Rattle.actor_mailbox.specs.declared.message.Message.{Message}
 use Rattle.actor_mailbox.specs.Messages.{depends_on}
-use Rattle.attempt_undoing.specs.declared.hanging.Hanging.{Hanging}
-use Rattle.attempt_undoing.specs.declared.hanging.Sent.{Sent}
 use Rattle.serial_model.specs.declared.actor_state.ActorState.{ActorState}
 use Rattle.serial_model.specs.declared.effect.Effect.{Effect}
 use Rattle.serial_model.specs.declared.effect.What.{What}
@@ -14,11 +12,9 @@ use Rattle.shared_world.specs.Dependence.{DependsIn}
 use Rattle.shared_world.specs.Seen.{done_by_root}
 use Rattle.shared_world.specs.Shared.{Shared}
 use Rattle.task_fork_join.specs.Attempt.{Attempt}
-use Rattle.task_fork_join.specs.declared.task.Task.{Task}
 use Rattle.tentative_turn.specs.Sending.{request_receivers}
 use Rattle.unit_table.specs.Board.{actor_at}
-use Rattle.value_core.specs.Named.{Name, is_among, made_by, named, same_name, with_name}
-use Rattle.value_core.specs.NameSet.{HasNames}
+use Rattle.value_core.specs.Named.{Name, is_among, made_by, named, same_name}
 
 -- ---- what was sent
 -- the receiver of an effect, where it sends something
@@ -30,9 +26,18 @@ effect_receiver _ = []
 abbrev pub effect_receivers : List Effect → List Name
 effect_receivers effects = flat_map (λ e. effect_receiver e.what) effects
 
+-- to whom something was sent, and the name on which it depends
+pub record Sent : Type 0 where
+  pub to : Name
+  pub on : Name
+
 -- something was sent to that receiver under that name
 abbrev pub sent_on : Name → Name → Sent
 sent_on on to = record { to = to; on = on }
+
+-- the same for each of these receivers
+abbrev pub sends_on : Name → List Name → List Sent
+sends_on on receivers = map (sent_on on) receivers
 
 -- whether it is among these
 abbrev pub is_sent : List Sent → Name → Name → Bool
@@ -55,33 +60,6 @@ next_turn to (Some actor) = Some (made_by to actor.turns)
 -- the turn of the actor on a message that depends on that name, where it has taken one
 abbrev pub turn_on : Shared → Name → Name → Option Name
 turn_on s on to = cond (is_taken s on to) (next_turn to (actor_at s.board to)) None
-
-abbrev pub with_found : List Name → Option Name → List Name
-with_found turns None = turns
-with_found turns (Some turn) = with_name turns turn
-
--- the turns, with the one that took what was sent under that name to that receiver
-abbrev pub with_turn : Shared → Name → List Name → Name → List Name
-with_turn s on turns to = with_found turns (turn_on s on to)
-
--- the names of the turns are seen
-abbrev pub AreSeen : Hanging → Type 0
-AreSeen h = HasNames h.seen h.turns.items
-
--- what was sent under that name to each of these is added, with the turns that took some of it
-pub record IsAdded (s : Shared) (on : Name) (receivers : List Name) (old new : Hanging) : Type 0 where
-  pub turns : new.turns.items ≡ fold (with_turn s on) old.turns.items receivers
-  pub sends : new.sends.items ≡ old.sends.items ++ map (sent_on on) receivers
-
--- so it is for the attempt, where there is one, from its last effect to its first
-abbrev pub TriedAdded : Shared → Option Attempt → Hanging → Hanging → Type 0
-TriedAdded s None old new = new ≡ old
-TriedAdded s (Some tree) old new = (t : Task) → named tree.root tree.tasks ≡ Some t → IsAdded s tree.root (effect_receivers (reverse t.log.log.effects)) old new
-
--- and for the turn of that name, where it runs ahead
-abbrev pub HeldAdded : Shared → Name → Option Ahead → Hanging → Hanging → Type 0
-HeldAdded s name None old new = new ≡ old
-HeldAdded s name (Some h) old new = IsAdded s name (request_receivers h.held) old new
 
 -- ---- all that hangs on an attempt
 -- a turn that took a message which depends on what hangs on the root
@@ -111,9 +89,6 @@ pub record IsAll (s : Shared) (u root : Name) (turns : List Name) (sends : List 
   pub own : TriedFound s u sends
   pub tried : (t : Name) → is_among t turns ≡ true → TriedFound s t sends
   pub held : (t : Name) → is_among t turns ≡ true → HeldFound s t sends
-
-abbrev pub Hangs : Shared → Name → Hanging → Type 0
-Hangs s u h = (tree : Attempt) → named u s.attempts ≡ Some tree → IsAll s u tree.root h.turns.items h.sends.items
 
 -- ---- the names that go
 -- whether the name is the root of that attempt

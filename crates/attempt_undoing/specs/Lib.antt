@@ -1,4 +1,5 @@
 pub mod Dropping
 pub mod Hanging
 pub mod Sends
+pub mod Turns
 pub mod Undoing

@@ -3,8 +3,7 @@ use Rattle.std.specs.Prelude.{◌≡◌, ◌⊎◌, ◌&&◌, [], Bool, List, Op
 use Rattle.actor_mailbox.specs.declared.message.Message.{Message}
 use Rattle.actor_mailbox.specs.Messages.{without}
 use Rattle.actor_mails.specs.Mails.{mail_at}
-use Rattle.attempt_undoing.specs.declared.hanging.Sent.{Sent}
-use Rattle.attempt_undoing.specs.Hanging.{depends_in, is_sent}
+use Rattle.attempt_undoing.specs.Hanging.{Sent, depends_in, is_sent}
 use Rattle.shared_world.specs.rows.Actors.{actor_mark, has_turn}
 use Rattle.shared_world.specs.rows.Undoing.{actor_now, message_left}
 use Rattle.shared_world.specs.Shared.{Shared}

@@ -7,4 +7,4 @@ mod hanging;
 mod sends;
 mod undoing;
 
-pub use undoing::undo_attempt;
+pub use undoing::{Undone, undo_attempt, undo_claimed};

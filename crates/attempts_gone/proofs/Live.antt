@@ -7,8 +7,10 @@ use Rattle.shared_world.proofs.Lists.{contains-first, contains-more}
 use Rattle.std.proofs.lemmas.List.Sorted.{Contains-permutation, length_permutation}
 use Rattle.std.specs.BTreeMap.{is_at}
 use Rattle.std.specs.Map.{lookup}
-use Rattle.std.specs.Prelude.{Contains, IsPermutation, None, Option, Some}
+use Rattle.std.specs.declared.cmp.Ordering.TheVariants.{Equal}
+use Rattle.std.specs.Prelude.{Contains, IfSome, IsPermutation, None, Option, Some}
 use Rattle.value_core.proofs.NameMaps.{lookup_is_named}
+use Rattle.value_core.proofs.Names.{after_cmp-IsAntisymmetric}
 use Rattle.value_core.specs.Name.{after_cmp}
 use Rattle.ref_store.specs.declared.version.Version.{Version}
 use Rattle.ref_store.specs.Store.{ArePruned}
@@ -26,7 +28,7 @@ same-either a b = on (same_name a b) (same_name b a) refl refl
     on false true e f = let no : true ≡ false = sym f ∙ ap (λ n. same_name b n) (sym (same_name-equal b a f)) ∙ ap (λ n. same_name n b) (same_name-equal b a f) ∙ e in cc
 
 -- as many snapshots as attempts
-snapshots-count : (all : Named Attempt) → length (snapshots_in all) ≡ length all
+pub snapshots-count : (all : Named Attempt) → length (snapshots_in all) ≡ length all
 snapshots-count [] = refl
 snapshots-count (e ∷ es) = ap suc (snapshots-count es)
 
@@ -46,13 +48,25 @@ sorted_live all pushed sorted is permuted = record {
   count = subst (λ n. n ≤ length all) (sym (length_permutation pushed sorted permuted ∙ ap length is ∙ snapshots-count all)) (le_refl (length all));
 }
 
+-- the snapshots are those of the attempts, as they stand
+pub all_live : (all : Named Attempt) → AreLive (snapshots_in all) all
+all_live all = record {
+  each = λ u tree there. snapshot-there u tree all there;
+  count = subst (λ n. n ≤ length all) (sym (snapshots-count all)) (le_refl (length all));
+}
+
 -- where nothing is to be pruned for so many, nothing is for the attempts
 pub not_due : (all : Named Attempt) (count : ℕ) (versions : Named (List Version)) → count ≡ length all → ((live : List ℕ) → length live ≡ count → ArePruned live versions versions) → ArePrunedFor all versions versions
 not_due all count versions is few = record {
   live = snapshots_in all;
-  are_live = record { each = λ u tree there. snapshot-there u tree all there; count = subst (λ n. n ≤ length all) (sym (snapshots-count all)) (le_refl (length all)) };
+  are_live = all_live all;
   pruned = few (snapshots_in all) (snapshots-count all ∙ sym is);
 }
+
+-- what is found under a name has that name
+pub found-under : {X : Type 0} (name : Name) (found : Option (Name × X)) → IfSome found (λ entry. after_cmp name entry.0 ≡ Equal) → IfSome found (λ entry. entry.0 ≡ name)
+found-under name None is = is
+found-under name (Some entry) is = sym (after_cmp-IsAntisymmetric name entry.0 is)
 
 -- what is removed is gone
 pub taken : {X : Type 0} (name : Name) (old new : Named X) → ((q : Name) → lookup (is_at (after_cmp q)) new ≡ cond (is_at (after_cmp name) q) None (lookup (is_at (after_cmp q)) old)) → IsWithout name old new

@@ -9,7 +9,7 @@ ghost use Rattle.task_fork_join.specs.Following.{names_after};
 ghost use Rattle.unit_table.specs.Board.{HasPlace, SameClaims, SamePieces};
 ghost use Rattle.value_core.specs.Named.{named, Name as Called};
 
-use crate::snapshots::{fill_snapshots, take_attempt};
+use crate::snapshots::{Snapshots, fill_snapshots, take_attempt};
 use ref_store::Store;
 use std::collections::BTreeMap;
 use task_fork_join::{TaskNames, Tree};
@@ -77,8 +77,15 @@ fn prune_due(attempts: &BTreeMap<Name, Tree>, store: &mut Store, mut live: Vec<u
     store.prune(live.as_slice());
 }
 
-/// The tasks of the attempt are gone. It takes no memory.
-fn drop_tasks(units: &mut Units, tree: &Tree)
+/// The same, where no room was made: each attempt is looked at for each version that may go. It takes no memory.
+pub fn prune_by_walk(attempts: &BTreeMap<Name, Tree>, store: &mut Store)
+    ensures pruned { ArePrunedFor attempts.now.entries store.old.versions store.new.versions }
+{
+    store.prune_for(&Snapshots { attempts });
+}
+
+/// The tasks of the attempt are gone. Their places stay, for [`forget_tasks`]. It takes no memory.
+pub fn drop_tasks(units: &mut Units, tree: &Tree)
     ensures gone { TasksGone (names_in tree.now.tasks) units.old units.new }
     ensures places { (other : Called) → HasPlace units.old other → HasPlace units.new other }
 {

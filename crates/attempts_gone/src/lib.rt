@@ -4,5 +4,5 @@
 mod dropping;
 mod snapshots;
 
-pub use dropping::{drop_attempt, forget_tasks, prune};
-pub use snapshots::room_for_snapshots;
+pub use dropping::{drop_attempt, drop_tasks, forget_tasks, prune, prune_by_walk};
+pub use snapshots::{room_for_snapshots, take_named};

@@ -1,11 +1,14 @@
 // The attempts that are live, and their snapshots.
-ghost use Rattle.std.specs.Prelude.{◌≡◌, ◌<◌, ◌≤◌, ◌++◌, ◌∷◌, [], IfOk, length};
+ghost use Rattle.std.specs.Prelude.{◌≡◌, ◌<◌, ◌≤◌, ◌&&◌, ◌++◌, ◌∷◌, [], IfOk, IfSome, length, nat_le, nat_lt, ⊤};
 ghost use Rattle.std.specs.List.Sorted.{IsNonDecreasing};
+ghost use Rattle.std.specs.Option.{option_map};
 ghost use Rattle.std.specs.Vec.{vec_capacity};
+ghost use Rattle.ref_store.specs.Pruned.{has_between};
 ghost use Rattle.attempts_gone.specs.Live.{snapshots_in};
 ghost use Rattle.shared_world.specs.rows.Attempts.{AreLive, IsWithout};
 ghost use Rattle.value_core.specs.Named.{named};
 
+use ref_store::Live;
 use std::alloc::{AllocError, Global};
 use std::collections::BTreeMap;
 use task_fork_join::Tree;
@@ -29,6 +32,62 @@ pub(crate) fn take_attempt(attempts: &mut BTreeMap<Name, Tree>, name: &Name) -> 
     ensures fewer { length attempts.new.entries ≤ length attempts.old.entries }
 {
     attempts.remove(name)
+}
+
+/// The attempt of the unit, which is gone then, with the name of the unit. It takes no memory.
+pub fn take_named(attempts: &mut BTreeMap<Name, Tree>, name: &Name) -> Option<(Name, Tree)>
+    ensures name { IfSome result (λ entry. entry.0 ≡ name.now) }
+    ensures tree { option_map (λ entry. entry.1) result ≡ named name.now attempts.old.entries }
+    ensures gone { IsWithout name.now attempts.old.entries attempts.new.entries }
+    ensures fewer { length attempts.new.entries ≤ length attempts.old.entries }
+{
+    attempts.remove_entry(name)
+}
+
+/// The snapshots of the attempts, which are looked at each time that one is asked for.
+#[derive(Drop)]
+pub(crate) struct Snapshots<'a> {
+    pub(crate) attempts: &'a BTreeMap<Name, Tree>,
+}
+
+impl Live for Snapshots<'_> {
+    ghost numbers = { λ s. snapshots_in s.attempts.now.entries };
+
+    ghost holds = { λ _. ⊤ };
+
+    fn count(&self) -> usize {
+        count_snapshots(self.attempts)
+    }
+
+    fn any_between(&self, from: u64, to: u64) -> bool {
+        any_between(self.attempts, from, to)
+    }
+}
+
+/// How many snapshots there are.
+fn count_snapshots(attempts: &BTreeMap<Name, Tree>) -> usize
+    ensures { result ≡ length (snapshots_in attempts.now.entries) }
+{
+    attempts.len()
+}
+
+/// Whether one of the snapshots is at or above the first bound and below the second.
+fn any_between(attempts: &BTreeMap<Name, Tree>, from: u64, to: u64) -> bool
+    ensures { result ≡ has_between from to (snapshots_in attempts.now.entries) }
+{
+    for (_name, tree) in attempts {
+        if is_between(tree.snapshot(), from, to) {
+            return true;
+        }
+    }
+    false
+}
+
+/// Whether the number is at or above the first bound and below the second.
+fn is_between(number: u64, from: u64, to: u64) -> bool
+    ensures { result ≡ (nat_le from number && nat_lt number to) }
+{
+    from <= number && number < to
 }
 
 /// The snapshots of the attempts, in order. There is room for them.

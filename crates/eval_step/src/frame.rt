@@ -10,7 +10,7 @@ use smallvec::SmallVec;
 use std::alloc::{AllocError, Global};
 use std::marker::Model;
 use std::mem;
-use value_core::Value;
+use value_core::{Value, Values};
 
 /// The values that are bound where a node is evaluated. Contracts see them in their order. Beside them stand marks, which
 /// say of the first of them, mostly all, which are known to be at most 200 deep.
@@ -56,11 +56,11 @@ impl Frame {
     }
 
     /// A frame of equal values.
-    pub fn copied(alloc: Global, values: &[Value]) -> Result<Self, AllocError>
+    pub fn copied(alloc: Global, values: &Values) -> Result<Self, AllocError>
         ensures { IfOk result (λ frame. frame ≡ values.now) }
     {
         let mut frame = Frame::new(alloc);
-        for value in values {
+        for value in values.iter() {
             frame.push(Known::unseen(value.copy(alloc)?))?;
         }
         Ok(frame)

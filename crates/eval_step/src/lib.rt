@@ -15,7 +15,6 @@ mod machine;
 mod operation;
 mod outcome;
 mod resuming;
-mod sameness;
 mod stack;
 mod unread;
 mod values;

@@ -7,7 +7,6 @@ use crate::context::Context;
 use crate::control::Control;
 use crate::copies::{copy_walk, keep_answer};
 use crate::frame::Frame;
-use crate::sameness::same_values;
 use crate::stack::Stack;
 use crate::walk::Walk;
 use answer_runs::Answers;
@@ -16,6 +15,7 @@ use serial_model::{Answer, Halt};
 use std::alloc::{AllocError, Global};
 use std::marker::Model;
 use value_core::Values;
+use value_core::lists::equal_values;
 
 /// An evaluation that goes on from request to request.
 pub struct Machine {
@@ -76,7 +76,7 @@ impl Machine {
         ensures answers { IfOk result (λ machine. machine.answers ≡ []) }
         ensures stands { IfOk result (λ machine. (table : Table) → body.index < length table.nodes → IsOf table machine) }
     {
-        let frame = Frame::copied(alloc, values.items())?;
+        let frame = Frame::copied(alloc, &values)?;
         let context = Context {
             frame,
             stack: Stack::new(alloc),
@@ -174,7 +174,7 @@ impl Machine {
         self.body == other.body
             && self.inside == other.inside
             && self.fuel == other.fuel
-            && same_values(self.values.items(), other.values.items())
+            && equal_values(&self.values, &other.values)
             && self.answers.same(&other.answers)
     }
 }

@@ -47,11 +47,10 @@ use Rattle.unit_table.specs.contracts.record.Record as record_row
 use Rattle.unit_table.specs.contracts.unit.Becoming as becoming
 use Rattle.unit_table.specs.contracts.unit.Unit as unit
 use Rattle.unit_table.specs.contracts.units.Units as units
-use Rattle.value_core.proofs.Crossing.{name_send, value_send, value_sync, values_send}
+use Rattle.value_core.proofs.Crossing.{name_send, value_send, value_sync, values_send, values_sync}
 use Rattle.value_core.proofs.name.Name.TheSendSync as name_crosses
 use Rattle.value_core.specs.contracts.name.Name as name
 use Rattle.value_core.specs.contracts.places.Places as places_of
-use Rattle.value_core.specs.contracts.shared.Shared as shared
 use Rattle.value_core.specs.contracts.value.Value as value
 use Rattle.wait_lists.proofs.wait_lists.WaitLists.TheSendSync as waits
 use Rattle.world_steps.specs.contracts.kept.Kept as kept
@@ -91,9 +90,6 @@ what_send = search (name_send, values_send, fields) depth 60 fits 20000
 
 effect_send : IsSend effect.the_row
 effect_send = search (name_send, what_send, fields) depth 60 fits 20000
-
-values_sync : IsSync (shared.the_row value.the_row)
-values_sync = search (value_send, value_sync, crosses, as_row_sync, declared_sync, sendable) depth 60 fits 20000
 
 what_sync : IsSync what.the_row
 what_sync = search (name_crosses.the_sync, values_sync, variants_sync, as_row_sync, declared_sync, crosses, sendable) depth 60 fits 20000

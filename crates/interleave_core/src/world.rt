@@ -1,8 +1,9 @@
-ghost use Rattle.std.specs.Prelude.{◌≡◌, ◌↔◌, IfOk, IsErrOf, IsTrue, None, OnErr, OnOk, Some, false, true};
+ghost use Rattle.std.specs.Prelude.{◌≡◌, ◌↔◌, IfOk, IsErrOf, IsOk, IsTrue, None, OnErr, OnOk, Some, false, true};
 ghost use Rattle.std.specs.Arc.{arc_value};
 ghost use Rattle.std.specs.Option.{option_copied};
 ghost use Rattle.lent_pieces.specs.Back.{IsBack};
 ghost use Rattle.lent_pieces.specs.Claims.{IsAbandoned, IsClaimOn, IsStale};
+ghost use Rattle.lent_pieces.specs.Doomed.{IsToAbort};
 ghost use Rattle.run_end.specs.Finishing.{IsFinished};
 ghost use Rattle.run_end.specs.InTurn.{GoesInTurn};
 ghost use Rattle.world_steps.specs.Kept.{IsSameBut};
@@ -101,12 +102,14 @@ impl World {
     /// What a result that is given back comes to, and what it changes. The result was run on the world's program. `Stale` comes
     /// exactly where its claim is out no more, or the machine or the work that it was lent are not the ones kept; then its piece is
     /// ready again, and nothing else changes. For want of memory the history, the refs, the bytes and the end are as before, its
-    /// claim is out no more, and its piece is ready again.
+    /// claim is out no more, and its piece is ready again. Where an attempt is to be undone by it, as its root has ended and a ref that
+    /// it read has a version above its snapshot, it takes no memory, and succeeds.
     pub fn give(&mut self, alloc: Global, done: Done) -> Result<Given, StepNo>
         requires { done.program ≡ self.old.setup.program }
         ensures gave { IfOk result (λ found. Gave self.old done found self.new) }
         ensures stale { IfOk result (λ found. found ≡ answers.Stale → IsStale self.old done self.new) }
         ensures back { OnErr result (IsBack self.old done self.new) }
+        ensures aborts { IsToAbort self.old done → IsOk result }
     {
         let parts = done.into_parts();
         Ok(give(&mut self.kept, alloc, parts)?)

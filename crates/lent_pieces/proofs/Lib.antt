@@ -1,3 +1,4 @@
+pub mod Doomed
 pub mod Given
 pub mod Leads
 pub mod Lending

@@ -61,7 +61,7 @@ lent-ready (Some p) w is = on (mark_in p) is
     on mark.Dropped e = cc
 
 -- the claim of what is live is out
-claim-out : (s : Shared) (ticket : Ticket) (name : Name) → claimed s ticket ≡ Some name → lent_to s.board ticket ≡ Some name
+pub claim-out : (s : Shared) (ticket : Ticket) (name : Name) → claimed s ticket ≡ Some name → lent_to s.board ticket ≡ Some name
 claim-out s ticket name is = on (is_going s.end) is
   where
     on : (c : Bool) → (if c then lent_to s.board ticket else None) ≡ Some name → lent_to s.board ticket ≡ Some name

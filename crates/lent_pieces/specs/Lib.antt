@@ -1,4 +1,5 @@
 pub mod Back
 pub mod Claims
+pub mod Doomed
 pub mod Giving
 pub mod Leading

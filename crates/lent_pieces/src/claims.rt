@@ -57,7 +57,7 @@ pub(crate) fn live_piece(
 }
 
 /// The name of that piece. It takes no memory.
-fn live_name<'a>(
+pub(crate) fn live_name<'a>(
     kept: &'a Kept,
     ticket: Ticket,
     work: Work,
@@ -74,7 +74,7 @@ fn live_name<'a>(
 }
 
 /// The piece whose claim has that ticket and is out. Once the run has ended none is.
-fn claimed(kept: &Kept, ticket: Ticket) -> Option<&Name>
+pub(crate) fn claimed(kept: &Kept, ticket: Ticket) -> Option<&Name>
     ensures { option_copied result ≡ claimed (shared_of kept.now) ticket }
 {
     match &kept.end {

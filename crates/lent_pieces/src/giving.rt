@@ -1,10 +1,11 @@
 // What a result that is given back comes to.
-ghost use Rattle.std.specs.Prelude.{◌≡◌, IfOk, IfSome, None, Ok, OnOk, Some, false};
+ghost use Rattle.std.specs.Prelude.{◌≡◌, IfOk, IfSome, IsOk, None, Ok, OnOk, Some, false};
 ghost use Rattle.std.specs.Option.{IsSome};
 ghost use Rattle.std.specs.Arc.{arc_value};
 ghost use Rattle.eval_step.specs.Evaluation.{IsOf};
-ghost use Rattle.lent_pieces.specs.Back.{GivesBack};
+ghost use Rattle.lent_pieces.specs.Back.{GivesBack, HasGiven};
 ghost use Rattle.lent_pieces.specs.Claims.{FindsLive, IsAbandoned};
+ghost use Rattle.lent_pieces.specs.Doomed.{FindsDoomed, IsDoomed, IsToAbort};
 ghost use Rattle.lent_pieces.specs.Giving.{GivesTo, HasHalted, IsMovedOn, IsOpenUnit, IsStanderOf};
 ghost use Rattle.world_steps.specs.Kept.{shared_of};
 ghost use Rattle.attempt_steps.specs.Tasks.{IsOwned, IsTaskAt};
@@ -18,15 +19,16 @@ ghost use Rattle.value_core.specs.Named.{named};
 ghost use Rattle.world_claim.specs.Lent.{IsMachineOf};
 ghost use Rattle.world_claim.specs.Run.{IsRunOf, returned_of};
 
-use crate::claims::{abandon, live_piece};
+use crate::claims::{abandon, claimed, live_name, live_piece};
 use crate::leading::give_piece;
 use actor_turns::give_actor;
-use attempt_steps::{settle_task, step_task};
+use attempt_steps::{abort_claimed, settle_task, step_task, to_undo};
 use core_syntax::Program;
 use eval_step::Machine;
 use serial_model::Halt;
 use shared_world::Given;
 use std::alloc::{AllocError, Global};
+use txn_commit::Conflict;
 use unit_table::Piece;
 use value_core::Name;
 use value_core::name_map::find;
@@ -49,8 +51,45 @@ pub(crate) enum Stander {
 }
 
 /// What a result with these parts comes to. It is Stale exactly where its claim is out no more, or what it was lent is not what is
-/// kept. For want of memory its claim is out no more, and its piece is ready again.
+/// kept. For want of memory its claim is out no more, and its piece is ready again; where an attempt is to be undone by it, it takes none.
 pub fn give(kept: &mut Kept, alloc: Global, parts: Parts) -> Result<Given, AllocError>
+    requires stands { Stands (shared_of kept.old) }
+    requires marks { HasMarks (shared_of kept.old) }
+    requires run { IsRunOf (returned_of (arc_value kept.old.program) parts) }
+    ensures gives { GivesBack (shared_of kept.old) (returned_of (arc_value kept.old.program) parts) (shared_of kept.new) result }
+    ensures aborts { IsToAbort (shared_of kept.old) (returned_of (arc_value kept.old.program) parts) → IsOk result }
+{
+    match doomed(kept, &parts) {
+        Some(conflict) => Ok(give_doomed(kept, alloc, parts, conflict)),
+        None => give_on(kept, alloc, parts),
+    }
+}
+
+/// Why the attempt is to be undone of whose task that is the result, where it is live and that is so. It takes no memory. The machines
+/// are compared last, which may cost most, and only where there is a reason.
+fn doomed(kept: &Kept, parts: &Parts) -> Option<Conflict>
+    ensures { FindsDoomed (shared_of kept.now) (returned_of (arc_value kept.now.program) parts.now) result }
+{
+    let name = claimed(kept, parts.ticket)?;
+    let conflict = to_undo(kept, name)?;
+    let _live = live_name(kept, parts.ticket, parts.work, &parts.machine)?;
+    Some(conflict)
+}
+
+/// What a result comes to by which an attempt is undone. It takes no memory.
+fn give_doomed(kept: &mut Kept, alloc: Global, parts: Parts, conflict: Conflict) -> Given
+    requires stands { Stands (shared_of kept.old) }
+    requires marks { HasMarks (shared_of kept.old) }
+    requires doomed { IsDoomed (shared_of kept.old) (returned_of (arc_value kept.old.program) parts) conflict }
+    ensures { HasGiven (shared_of kept.old) (returned_of (arc_value kept.old.program) parts) (shared_of kept.new) result }
+{
+    let ticket = parts.ticket;
+    drop_parts(parts);
+    abort_claimed(kept, alloc, ticket, conflict)
+}
+
+/// What any other result comes to.
+fn give_on(kept: &mut Kept, alloc: Global, parts: Parts) -> Result<Given, AllocError>
     requires stands { Stands (shared_of kept.old) }
     requires marks { HasMarks (shared_of kept.old) }
     requires run { IsRunOf (returned_of (arc_value kept.old.program) parts) }

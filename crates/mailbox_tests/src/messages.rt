@@ -10,7 +10,7 @@ pub(crate) fn message(
     depends: Option<u32>,
 ) -> Result<Message, AllocError> {
     let mut args = Values::new(alloc);
-    args.add(Value::Int(number))?;
+    args.push(Value::Int(number))?;
     Ok(Message {
         sender: name(alloc, sender)?,
         args,
@@ -32,7 +32,7 @@ fn optional_name(alloc: Global, number: Option<u32>) -> Result<Option<Name>, All
 
 /// The number of a message.
 pub(crate) fn number_of(message: &Message) -> Option<i64> {
-    match message.args.items() {
+    match message.args.chunk_from(0) {
         [Value::Int(number)] => Some(*number),
         _ => None,
     }

@@ -2,12 +2,14 @@
 //! no live number reads.
 #![tactic(auto)]
 
+mod live;
 mod pruning;
 mod store;
 mod version;
 mod versions;
 mod writes;
 
+pub use live::Live;
 pub use store::Store;
 pub use version::Version;
 pub use writes::Writes;

@@ -7,9 +7,10 @@ ghost use Rattle.ref_store.specs.Places.{has_busy, room_in, versions_in, AreAdde
 ghost use Rattle.ref_store.specs.Store.{committed, versions_of, ArePruned, HasRoom, HasRoomFor, IsAbove, ReadsStayBelow, ReadsWrittenFrom};
 ghost use Rattle.ref_store.specs.Version.{newest, value_at, IsHighest, IsReadAt};
 
+use crate::live::Sorted;
 use crate::pruning::prune;
 use crate::versions::Versions;
-use crate::{Version, Writes};
+use crate::{Live, Version, Writes};
 use std::alloc::{AllocError, Global};
 use std::collections::BTreeMap;
 use std::marker::Model;
@@ -118,7 +119,17 @@ impl Store {
         ensures above { (number : ℕ) → IsAbove number self.old.versions → IsAbove number self.new.versions }
         ensures kept { (name : Naming) → HasRoom name self.old.room → HasRoom name self.new.room }
     {
-        if !self.is_due(live.len()) {
+        self.prune_for(&Sorted { numbers: live });
+    }
+
+    /// The same, where it is only asked of the live numbers whether one lies in a range.
+    pub fn prune_for<L: Live>(&mut self, live: &L)
+        requires { L.holds live.now }
+        ensures versions { ArePruned (L.numbers live.now) self.old.versions self.new.versions }
+        ensures above { (number : ℕ) → IsAbove number self.old.versions → IsAbove number self.new.versions }
+        ensures kept { (name : Naming) → HasRoom name self.old.room → HasRoom name self.new.room }
+    {
+        if !self.is_due(live.count()) {
             return;
         }
         self.most = prune(&mut self.refs, &mut self.watched, live);

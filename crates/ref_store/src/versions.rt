@@ -1,12 +1,10 @@
-ghost use Rattle.std.specs.Prelude.{◌≡◌, ◌+◌, ◌<◌, ◌≤◌, ◌&&◌, ◌++◌, ◌∷◌, [], drop, length, false, nat_le, nat_lt, take, All, IfSome, IsNone, OnOk, vec_capacity};
-ghost use Rattle.std.specs.List.{list_any};
-ghost use Rattle.std.specs.List.Sorted.{IsNonDecreasing};
+ghost use Rattle.std.specs.Prelude.{◌≡◌, ◌+◌, ◌<◌, ◌≤◌, ◌++◌, ◌∷◌, [], drop, length, false, take, All, IfSome, IsNone, OnOk, vec_capacity};
 ghost use Rattle.std.specs.Option.{option_copied};
 ghost use Rattle.ref_store.specs.Places.{is_busy};
-ghost use Rattle.ref_store.specs.Pruned.{first_staying, has_between, staying, IsPruned};
+ghost use Rattle.ref_store.specs.Pruned.{first_staying, staying, IsPruned};
 ghost use Rattle.ref_store.specs.Version.{newest, version_at, NumbersRise};
 
-use crate::Version;
+use crate::{Live, Version};
 use std::alloc::{AllocError, Global};
 use std::marker::Model;
 
@@ -123,18 +121,18 @@ impl Versions {
     }
 
     /// Drops the versions that no live number reads, but for the newest. It takes no memory, and the room does not shrink.
-    pub(crate) fn prune(&mut self, live: &[u64])
-        requires { IsNonDecreasing live.now }
-        ensures pruned { IsPruned live.now self.old.items self.new.items }
+    pub(crate) fn prune<L: Live>(&mut self, live: &L)
+        requires { L.holds live.now }
+        ensures pruned { IsPruned (L.numbers live.now) self.old.items self.new.items }
         ensures room { self.old.room ≤ self.new.room }
     {
         prune(&mut self.all, live);
     }
 }
 
-fn prune(versions: &mut Vec<Version>, live: &[u64])
-    requires { IsNonDecreasing live.now }
-    ensures items { versions.new.items ≡ staying live.now versions.old.items }
+fn prune<L: Live>(versions: &mut Vec<Version>, live: &L)
+    requires { L.holds live.now }
+    ensures items { versions.new.items ≡ staying (L.numbers live.now) versions.old.items }
     ensures capacity { vec_capacity versions.new ≡ vec_capacity versions.old }
 {
     // From the newest on, so that few versions move where one is dropped.
@@ -146,23 +144,14 @@ fn prune(versions: &mut Vec<Version>, live: &[u64])
 }
 
 /// Drops the version at the index where no live number reads it, and it is not the last.
-fn drop_unread(versions: &mut Vec<Version>, index: usize, live: &[u64])
+fn drop_unread<L: Live>(versions: &mut Vec<Version>, index: usize, live: &L)
     requires at { index < length versions.old.items }
-    requires rises { IsNonDecreasing live.now }
-    ensures items { versions.new.items ≡ take index versions.old.items ++ first_staying live.now (drop index versions.old.items) }
+    requires holds { L.holds live.now }
+    ensures items { versions.new.items ≡ take index versions.old.items ++ first_staying (L.numbers live.now) (drop index versions.old.items) }
     ensures capacity { vec_capacity versions.new ≡ vec_capacity versions.old }
 {
     let next = index + 1;
-    if next < versions.len() && !any_between(live, versions[index].number, versions[next].number) {
+    if next < versions.len() && !live.any_between(versions[index].number, versions[next].number) {
         versions.remove(index);
     }
-}
-
-/// Whether one of the numbers is at or above the first bound and below the second.
-fn any_between(numbers: &[u64], from: u64, to: u64) -> bool
-    requires { IsNonDecreasing numbers.now }
-    ensures { result ≡ has_between from to numbers.now }
-{
-    let first = numbers.partition_point(|number| *number < from);
-    first < numbers.len() && numbers[first] < to
 }

@@ -71,7 +71,7 @@ fn settle_all(kept: &mut Kept, alloc: Global) -> Result<End, AllocError>
 {
     let mut passed = None;
     for _ in 0..u64::MAX {
-        if let Some(end) = end_reached(kept, alloc)? {
+        if let Some(end) = end_reached(kept, alloc, &passed)? {
             return Ok(end);
         }
         passed = settle_next(kept, alloc, passed)?;
@@ -79,11 +79,15 @@ fn settle_all(kept: &mut Kept, alloc: Global) -> Result<End, AllocError>
     Err(AllocError)
 }
 
-/// The end of the run, where it is over.
-fn end_reached(kept: &Kept, alloc: Global) -> Result<Option<End>, AllocError>
+/// The end of the run, where it is set, or where the run is over and nothing is passed. So the mail is looked through once for each
+/// walk over the pieces, and not for each step.
+fn end_reached(kept: &Kept, alloc: Global, passed: &Option<Name>) -> Result<Option<End>, AllocError>
     requires stands { Stands (shared_of kept.now) }
     ensures { IfOk result (IsOverOr (shared_of kept.now)) }
 {
+    if kept.end.is_none() && passed.is_some() {
+        return Ok(None);
+    }
     match end_by(kept, &End::Done) {
         Some(end) => Ok(Some(end.copy(alloc)?)),
         None => Ok(None),

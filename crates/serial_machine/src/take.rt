@@ -34,13 +34,11 @@ fn turn(actor: &mut ActorState) -> Result<(), AllocError>
 }
 
 /// The values, and behind them the message.
-fn joined(alloc: Global, state: &Values, message: &Values) -> Result<Values, AllocError>
+fn joined(state: &Values, message: &Values) -> Result<Values, AllocError>
     ensures { IfOk result (λ values. values ≡ state.now ++ message.now) }
 {
     let mut values = state.copy()?;
-    for value in message.items() {
-        values.add(value.copy(alloc)?)?;
-    }
+    values.append(message)?;
     Ok(values)
 }
 
@@ -77,7 +75,7 @@ impl Now {
         let Some(message) = self.queues.take(actor, sender) else {
             return Err(AllocError);
         };
-        let values = joined(alloc, &state, &message)?;
+        let values = joined(&state, &message)?;
         let turner = actor.copy(alloc)?;
         self.start(alloc, program, limits, name, Some(turner), body, values)?;
         begin(&mut self.actors, actor)

@@ -347,16 +347,25 @@ impl Tree {
     pub fn into_names(self) -> TaskNames
         ensures { result ≡ names_in self.tasks }
     {
+        let (names, _reads) = self.into_parts();
+        names
+    }
+
+    /// Gives up the attempt for the names of its tasks, and the refs that they read from the store. It takes no memory.
+    pub fn into_parts(self) -> (TaskNames, Reads)
+        ensures names { result.0 ≡ names_in self.tasks }
+        ensures reads { result.1.items ≡ self.reads }
+    {
         let Tree {
             root: _root,
             tasks,
-            reads: _reads,
+            reads,
             actor: _actor,
             snapshot: _,
             fuel: _,
             escape: _escape,
         } = self;
-        TaskNames { tasks }
+        (TaskNames { tasks }, reads)
     }
 
     /// The root's task.

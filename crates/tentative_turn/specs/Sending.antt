@@ -1,5 +1,5 @@
 -- What a turn sends that runs ahead.
-use Rattle.std.specs.Prelude.{Bool, List, [], ◌∷◌, false, filter, flat_map}
+use Rattle.std.specs.Prelude.{Bool, List, [], ◌∷◌, None, Option, Some, false, filter, flat_map}
 use Rattle.serial_model.specs.declared.request.Request.{Request}
 use Rattle.serial_model.specs.declared.request.Request.TheVariants as request
 use Rattle.tentative_turn.specs.declared.held_effect.HeldEffect.{HeldEffect}
@@ -36,3 +36,8 @@ held_receiver (held.Take entry) = []
 
 abbrev pub held_receivers : List HeldEffect → List Name
 held_receivers effects = flat_map held_receiver effects
+
+-- a name, where there is one
+abbrev pub listed : Option Name → List Name
+listed None = []
+listed (Some to) = to ∷ []

@@ -111,6 +111,13 @@ impl Held {
         count_sent(&self.effects, to)
     }
 
+    /// The effects that it holds, in their order. It takes no memory.
+    pub fn effects(&self) -> &VecDeque<HeldEffect>
+        ensures { result.now.items ≡ self.now.effects }
+    {
+        &self.effects
+    }
+
     /// The receivers of what the requests that it holds send, in their order; or it finds no memory.
     pub fn receivers(&self, alloc: Global) -> Result<Vec<Name>, AllocError>
         ensures { IfOk result (λ names. names.items ≡ held_receivers self.now.effects) }

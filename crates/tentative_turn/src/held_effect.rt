@@ -1,8 +1,11 @@
 ghost use Rattle.std.specs.Prelude.{◌≡◌, [], ◌∷◌, ◌++◌, IfOk, OnErr, OnOk};
+ghost use Rattle.std.specs.Option.{option_copied};
+ghost use Rattle.tentative_turn.specs.Sending.{held_receiver, listed};
 
 use serial_model::{Answer, Entry, Request};
 use std::alloc::{AllocError, Global};
 use std::collections::VecDeque;
+use value_core::Name;
 
 /// An effect that is held until it settles.
 #[derive(Drop)]
@@ -24,6 +27,16 @@ impl HeldEffect {
                 let request = request.copy(alloc)?;
                 Ok(HeldEffect::Asked(request, answer.copy(alloc)?))
             }
+        }
+    }
+
+    /// The receiver of what it sends, where it is a request that sends something. It takes no memory.
+    pub fn receiver(&self) -> Option<&Name>
+        ensures { listed (option_copied result) ≡ held_receiver self.now }
+    {
+        match self {
+            HeldEffect::Asked(Request::Send(to, _), _) => Some(to),
+            _ => None,
         }
     }
 }

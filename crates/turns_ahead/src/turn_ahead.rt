@@ -9,6 +9,7 @@ ghost use Rattle.unit_table.specs.declared.unit.Becoming.{Becoming as Turning};
 
 use serial_model::{Entry, Request};
 use std::alloc::{AllocError, Global};
+use std::collections::VecDeque;
 use std::marker::Model;
 use tentative_turn::{Ahead, Held, HeldEffect, count_made};
 use unit_table::Becoming;
@@ -152,6 +153,13 @@ impl TurnAhead {
         ensures { result ≡ length (sends_to to.now (ahead_of self.now).held) }
     {
         self.held.count_sends(to)
+    }
+
+    /// The effects that it holds, in their order: its begin, where that is held, and requests. It takes no memory.
+    pub fn effects(&self) -> &VecDeque<HeldEffect>
+        ensures { result.now.items ≡ self.now.turn.effects }
+    {
+        self.held.effects()
     }
 
     /// The receivers of what the requests that it holds send, in their order; or it finds no memory.

@@ -1,4 +1,4 @@
-ghost use Rattle.std.specs.Prelude.{◌≡◌, ◌+◌, ◌<◌, ◌≤◌, [], IfErr, IfOk, IsOk, OnErr, OnOk};
+ghost use Rattle.std.specs.Prelude.{◌≡◌, ◌+◌, ◌<◌, ◌≤◌, [], IfErr, IfOk, IsOk, OnErr, OnOk, Some, length, slice_get};
 ghost use Rattle.ref_store.specs.Writes.{IsGapFor, IsPlaceOf};
 ghost use Rattle.txn_snapshot.specs.Reads.{marked, with_read, ReadsRise};
 
@@ -68,6 +68,15 @@ impl Reads {
             Ok(_) => Ok(()),
             Err(at) => Ok(self.items.insert(at, name)?),
         }
+    }
+
+    /// The ref at that place among them; the others are let go. It takes no memory.
+    pub fn into_name(self, index: usize) -> Name
+        requires { index < length self.items }
+        ensures { slice_get self.items index ≡ Some result }
+    {
+        let Reads { mut items } = self;
+        items.swap_remove(index)
     }
 
     /// These names, listed.

@@ -1,5 +1,5 @@
 -- Joined texts from a place on.
-use Rattle.std.proofs.Common.{◌≡◌, ℕ, ◌≤◌, Bool, true, false, Result, Ok, Err, IfOk, OnOk, if◌then◌else◌, List, [], ◌∷◌, ◌++◌, map, length, drop, refl, sym, ap, ◌∙◌, append_assoc, append-nil}
+use Rattle.std.proofs.Common.{◌≡◌, ℕ, ◌≤◌, Bool, true, false, Result, Ok, Err, IfOk, OnOk, if◌then◌else◌, List, [], ◌∷◌, ◌++◌, map, length, drop, refl, sym, ap, ◌∙◌, append_assoc, append-nil, arith}
 use Rattle.std.specs.Prelude.{◌==◌}
 use Rattle.std.proofs.lemmas.List.{drop_all}
 use Rattle.value_core.specs.Texts.{joined}
@@ -23,6 +23,12 @@ pub written_all : {A : Type 0} (write : A → List ℕ) (separator : List ℕ) (
     → text ++ left_at separator (i == 0) (map write (drop i xs)) ≡ all → text ≡ all
 written_all write separator xs i text all le e =
     sym (append-nil text) ∙ ap (λ l. text ++ left_at separator (i == 0) (map write l)) (sym (drop_all i xs le)) ∙ e
+
+-- where none is left, none is behind the last one
+pub ended : {A : Type 0} (write : A → List ℕ) (separator : List ℕ) (xs rest : List A) (is_first : Bool) (text all : List ℕ) → rest ≡ []
+    → text ++ left_at separator is_first (map write rest) ≡ all → text ++ left_at separator (length xs == 0) (map write (drop (length xs) xs)) ≡ all
+ended write separator xs rest is_first text all none e =
+    ap (λ l. text ++ left_at separator (length xs == 0) (map write l)) (drop_all (length xs) xs (omega arith)) ∙ sym (ap (λ l. text ++ left_at separator is_first (map write l)) none) ∙ e
 
 -- all texts written, with an opening before them and a closing after them
 pub between : {A E : Type 0} (write : A → List ℕ) (separator : List ℕ) (xs ys : List A) (i : ℕ) (old start text opening closing all : List ℕ) (r : Result (Unit {0}) E) → length xs ≤ i → xs ≡ ys

@@ -14,7 +14,6 @@ pub mod Place
 pub mod Placed
 pub mod primitives
 pub mod Roomy
-pub mod Stored
 pub mod Structural
 pub mod Texts
 pub mod ToKey

@@ -1,3 +1,2 @@
 pub mod dict
 pub mod seq
-pub mod shared

@@ -1,6 +1,7 @@
-ghost use Rattle.std.specs.Prelude.{◌≡◌, [], ◌∷◌, ◌++◌, IfOk, OnErr, OnOk};
+ghost use Rattle.std.specs.Prelude.{◌≡◌, ◌↔◌, IsTrue, [], ◌∷◌, ◌++◌, IfOk, OnErr, OnOk};
 
-use crate::{Seq, Shared, Value, Values};
+use crate::value::equal_items;
+use crate::{Seq, Value, Values};
 use std::alloc::{AllocError, Global};
 
 /// Appends the item. For want of memory the list stays, and the item is dropped.
@@ -15,5 +16,12 @@ pub fn add<T: Drop>(list: &mut Seq<T>, item: T) -> Result<(), AllocError>
 pub fn copy_list(alloc: Global, values: &[Value]) -> Result<Values, AllocError>
     ensures { IfOk result (λ copied. copied ≡ values.now) }
 {
-    Shared::from_slice(alloc, values)
+    Values::from_slice(alloc, values)
+}
+
+/// Whether the two lists hold the same values. It takes no memory.
+pub fn equal_values(left: &Values, right: &Values) -> bool
+    ensures { IsTrue result ↔ (left.now ≡ right.now) }
+{
+    equal_items(left, right)
 }

@@ -4,7 +4,7 @@ ghost use Rattle.value_core.specs.Depth.{depth_of, deepest};
 ghost use Rattle.value_core.specs.Futures.{holds_future};
 ghost use Rattle.value_core.specs.ToKey.{key_of};
 
-use crate::{Dict, Key, Name, Pairs, Shared, Text};
+use crate::{Dict, Key, Name, Pairs, SharedVector, Text};
 use std::alloc::{AllocError, Global};
 use thiserror::Error;
 
@@ -24,7 +24,7 @@ pub enum Value {
 }
 
 /// A list of values, whose copies share them.
-pub type Values = Shared<Value>;
+pub type Values = SharedVector<Value>;
 
 /// Why a value is no key: it is of no kind of keys, or there was no memory for the copy.
 #[derive(Clone, Copy, Debug, PartialEq, Eq, Error)]
@@ -131,7 +131,7 @@ fn deepest_item(items: &Values) -> u32
     ensures { result ≡ min (deepest (map depth_of items.now)) 4294967295 }
 {
     let mut most = 0;
-    for item in items.items() {
+    for item in items.iter() {
         most = greater(most, item.depth());
     }
     most
@@ -158,7 +158,7 @@ fn greater(a: u32, b: u32) -> u32
 fn some_item_holds_future(items: &Values) -> bool
     ensures { result ≡ list_any holds_future items.now }
 {
-    for item in items.items() {
+    for item in items.iter() {
         if item.holds_future() {
             return true;
         }
@@ -179,16 +179,21 @@ fn some_value_holds_future(pairs: &Pairs) -> bool
 }
 
 #[cycle(equal)]
-fn equal_items(left: &Values, right: &Values) -> bool
+pub(crate) fn equal_items(left: &Values, right: &Values) -> bool
     ensures { IsTrue result ↔ (left.now ≡ right.now) }
 {
-    let others = right.items();
-    if left.items().len() != others.len() {
+    if left.len() != right.len() {
         return false;
     }
-    for (index, item) in left.items().iter().enumerate() {
-        if !item.equal(&others[index]) {
-            return false;
+    let mut others = right.iter();
+    for item in left.iter() {
+        match others.next() {
+            Some(other) => {
+                if !item.equal(other) {
+                    return false;
+                }
+            }
+            None => return false,
         }
     }
     true

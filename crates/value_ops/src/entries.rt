@@ -81,7 +81,7 @@ fn place(alloc: Global, items: &mut Values, number: i64, value: &Value) -> Resul
     if number < 0 {
         return Ok(false);
     }
-    let (place, length) = (number as usize, items.items().len());
+    let (place, length) = (number as usize, items.len());
     if place > length {
         return Ok(false);
     }

@@ -18,7 +18,7 @@ pub(crate) fn count(args: &[Value]) -> Result<Value, OpFault>
 {
     match args {
         [Value::Nil] => Ok(Value::Int(0)),
-        [Value::Vector(items)] => Ok(Value::Int(items.items().len() as i64)),
+        [Value::Vector(items)] => Ok(Value::Int(items.len() as i64)),
         [Value::Map(pairs)] => Ok(Value::Int(pairs.items().len() as i64)),
         _ => Err(OpFault::WrongType),
     }
@@ -30,7 +30,7 @@ pub(crate) fn empty(args: &[Value]) -> Result<Value, OpFault>
 {
     match args {
         [Value::Nil] => Ok(Value::Bool(true)),
-        [Value::Vector(items)] => Ok(Value::Bool(items.items().is_empty())),
+        [Value::Vector(items)] => Ok(Value::Bool(items.is_empty())),
         [Value::Map(pairs)] => Ok(Value::Bool(pairs.items().is_empty())),
         _ => Err(OpFault::WrongType),
     }
@@ -107,7 +107,7 @@ pub(crate) fn nth(alloc: Global, args: &[Value]) -> Result<Value, OpFault>
 }
 
 /// `conj`
-pub(crate) fn conj(alloc: Global, args: Vec<Value>) -> Result<Value, OpFault>
+pub(crate) fn conj(args: Vec<Value>) -> Result<Value, OpFault>
     ensures { Gives result (of_first (λ c more. conj_step (out-Value c) more) args.items) }
 {
     let Some(parts) = first_of(args) else {
@@ -115,13 +115,13 @@ pub(crate) fn conj(alloc: Global, args: Vec<Value>) -> Result<Value, OpFault>
     };
     let (first, more) = parts;
     match first {
-        Value::Vector(items) => joined(alloc, items, &more),
+        Value::Vector(items) => joined(items, &more),
         _ => Err(OpFault::WrongType),
     }
 }
 
 /// `into`
-pub(crate) fn into(alloc: Global, args: Vec<Value>) -> Result<Value, OpFault>
+pub(crate) fn into(args: Vec<Value>) -> Result<Value, OpFault>
     ensures { Gives result (of_two (λ a b. into_step (out-Value a) (out-Value b)) args.items) }
 {
     let Some(parts) = first_of(args) else {
@@ -129,19 +129,28 @@ pub(crate) fn into(alloc: Global, args: Vec<Value>) -> Result<Value, OpFault>
     };
     let (first, more) = parts;
     match first {
-        Value::Vector(items) => appended(alloc, items, &more),
+        Value::Vector(items) => appended(items, &more),
         _ => Err(OpFault::WrongType),
     }
 }
 
 // The vector of the items and then those of the one vector behind it.
-fn appended(alloc: Global, items: Values, more: &[Value]) -> Result<Value, OpFault>
+fn appended(items: Values, more: &[Value]) -> Result<Value, OpFault>
     ensures { Gives result (of_two (λ a b. into_step (out-Value a) (out-Value b)) (Vector items ∷ more.now)) }
 {
     match more {
-        [Value::Vector(more)] => joined(alloc, items, more.items()),
+        [Value::Vector(more)] => with_behind(items, more),
         _ => Err(OpFault::WrongType),
     }
+}
+
+// The vector of the items and then those of the other list.
+fn with_behind(items: Values, more: &Values) -> Result<Value, OpFault>
+    ensures { Gives result (Ok (Vector (items ++ more.now))) }
+{
+    let mut items = items;
+    items.append(more)?;
+    Ok(Value::Vector(items))
 }
 
 /// The first argument, and those behind it.
@@ -160,16 +169,15 @@ pub(crate) fn first_of(args: Vec<Value>) -> Option<(Value, Vec<Value>)>
 pub(crate) fn vector(alloc: Global, args: &[Value]) -> Result<Value, OpFault>
     ensures { Gives result (Ok (Vector args.now)) }
 {
-    joined(alloc, Values::new(alloc), args)
+    joined(Values::new(alloc), args)
 }
 
 // The vector of the first items and then the others.
-fn joined(alloc: Global, first: Values, others: &[Value]) -> Result<Value, OpFault>
+fn joined(first: Values, others: &[Value]) -> Result<Value, OpFault>
     ensures { Gives result (Ok (Vector (first ++ others.now))) }
 {
     let mut items = first;
-    items.reserve(others.len())?;
-    push_all(alloc, &mut items, others)?;
+    items.extend(others)?;
     Ok(Value::Vector(items))
 }
 
@@ -179,7 +187,7 @@ pub(crate) fn first(alloc: Global, args: &[Value]) -> Result<Value, OpFault>
 {
     match args {
         [Value::Nil] => Ok(Value::Nil),
-        [Value::Vector(items)] => copied(alloc, items.items().first().unwrap_or(&Value::Nil)),
+        [Value::Vector(items)] => copied(alloc, items.get(0).unwrap_or(&Value::Nil)),
         _ => Err(OpFault::WrongType),
     }
 }
@@ -190,7 +198,7 @@ pub(crate) fn last(alloc: Global, args: &[Value]) -> Result<Value, OpFault>
 {
     match args {
         [Value::Nil] => Ok(Value::Nil),
-        [Value::Vector(items)] => copied(alloc, items.items().last().unwrap_or(&Value::Nil)),
+        [Value::Vector(items)] => copied(alloc, items.last().unwrap_or(&Value::Nil)),
         _ => Err(OpFault::WrongType),
     }
 }
@@ -201,49 +209,36 @@ pub(crate) fn rest(alloc: Global, args: &[Value]) -> Result<Value, OpFault>
 {
     match args {
         [Value::Nil] => Ok(Value::Vector(Values::new(alloc))),
-        [Value::Vector(items)] => part(
-            alloc,
-            items.items(),
-            items.items().len().min(1),
-            items.items().len(),
-        ),
+        [Value::Vector(items)] => part(items, items.len().min(1), items.len()),
         _ => Err(OpFault::WrongType),
     }
 }
 
 // The items from one place up to another.
-fn part(alloc: Global, items: &[Value], start: usize, end: usize) -> Result<Value, OpFault>
+fn part(items: &Values, start: usize, end: usize) -> Result<Value, OpFault>
     requires ordered { start ≤ end }
     requires in_range { end ≤ length items.now }
     ensures { Gives result (Ok (Vector (take (end - start) (drop start items.now)))) }
 {
-    joined(alloc, Values::new(alloc), &items[start..end])
+    Ok(Value::Vector(items.part(start, end)?))
 }
 
 /// `subvec`
-pub(crate) fn subvec(alloc: Global, args: &[Value]) -> Result<Value, OpFault>
+pub(crate) fn subvec(args: &[Value]) -> Result<Value, OpFault>
     ensures { Gives result (of_two_or_three (λ c start. subvec_step (out-Value c) start) (λ c start end. subvec_to_step (out-Value c) start end) args.now) }
 {
     match args {
-        [Value::Vector(items), Value::Int(start)] => cut(
-            alloc,
-            items,
-            *start,
-            items.items().len() as i64,
-        ),
-        [Value::Vector(items), Value::Int(start), Value::Int(end)] => cut(
-            alloc, items, *start, *end,
-        ),
+        [Value::Vector(items), Value::Int(start)] => cut(items, *start, items.len() as i64),
+        [Value::Vector(items), Value::Int(start), Value::Int(end)] => cut(items, *start, *end),
         _ => Err(OpFault::WrongType),
     }
 }
 
-fn cut(alloc: Global, items: &Values, start: i64, end: i64) -> Result<Value, OpFault>
+fn cut(items: &Values, start: i64, end: i64) -> Result<Value, OpFault>
     ensures { Gives result (between items.now start end) }
 {
-    let items = items.items();
     if 0 <= start && start <= end && end as usize <= items.len() {
-        part(alloc, items, start as usize, end as usize)
+        part(items, start as usize, end as usize)
     } else {
         Err(OpFault::Index)
     }
@@ -311,7 +306,7 @@ pub(crate) fn item_at(items: &Values, number: i64) -> Option<&Value>
     if number < 0 {
         None
     } else {
-        items.items().get(number as usize)
+        items.get(number as usize)
     }
 }
 
@@ -365,15 +360,4 @@ pub(crate) fn copies(alloc: Global, values: &[Value]) -> Result<Vec<Value>, OpFa
             .map_err(|_| OpFault::Memory)?;
     }
     Ok(copies)
-}
-
-/// Appends copies of the values.
-pub(crate) fn push_all(alloc: Global, items: &mut Values, values: &[Value]) -> Result<(), OpFault>
-    ensures ok { IfOk result (λ _. items.new ≡ items.old ++ values.now) }
-    ensures err { IfErr result (λ fault. fault ≡ OpFault.Memory) }
-{
-    for value in values {
-        push(items, value.copy(alloc)?)?;
-    }
-    Ok(())
 }

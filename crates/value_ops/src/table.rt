@@ -92,8 +92,8 @@ fn own_rule(alloc: Global, op: Op, args: Vec<Value>) -> Result<Value, OpFault>
     ensures { Gives result (rule_of op args.items) }
 {
     match op {
-        Op::Conj => parts::conj(alloc, args),
-        Op::Into => parts::into(alloc, args),
+        Op::Conj => parts::conj(args),
+        Op::Into => parts::into(args),
         Op::Assoc => entries::assoc(alloc, args),
         Op::Dissoc => entries::dissoc(alloc, args),
         _ => rule(alloc, op, &args),
@@ -137,7 +137,7 @@ fn rule(alloc: Global, op: Op, args: &[Value]) -> Result<Value, OpFault>
         Op::Count => parts::count(args),
         Op::Get => parts::get(alloc, args),
         Op::Nth => parts::nth(alloc, args),
-        Op::Conj => parts::conj(alloc, parts::copies(alloc, args)?),
+        Op::Conj => parts::conj(parts::copies(alloc, args)?),
         Op::Assoc => entries::assoc(alloc, parts::copies(alloc, args)?),
         Op::Dissoc => entries::dissoc(alloc, parts::copies(alloc, args)?),
         Op::Contains => parts::contains(alloc, args),
@@ -147,8 +147,8 @@ fn rule(alloc: Global, op: Op, args: &[Value]) -> Result<Value, OpFault>
         Op::Last => parts::last(alloc, args),
         Op::Rest => parts::rest(alloc, args),
         Op::IsEmpty => parts::empty(args),
-        Op::Subvec => parts::subvec(alloc, args),
-        Op::Into => parts::into(alloc, parts::copies(alloc, args)?),
+        Op::Subvec => parts::subvec(args),
+        Op::Into => parts::into(parts::copies(alloc, args)?),
         Op::Str => string(alloc, args),
     }
 }

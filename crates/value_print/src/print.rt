@@ -73,9 +73,11 @@ fn push_vector(text: &mut Text, style: Style, items: &Values) -> Result<(), Allo
     ensures { IfOk result (λ _. text.new ≡ text.old ++ (codes "[" ++ joined (codes " ") (map (value_text style) items.now) ++ codes "]")) }
 {
     text.extend(b"[")?;
-    for (index, item) in items.items().iter().enumerate() {
-        push_separator(text, index, b" ")?;
+    let mut before = 0usize;
+    for item in items.iter() {
+        push_separator(text, before, b" ")?;
         push_value(text, style, item)?;
+        before = before.saturating_add(1);
     }
     text.extend(b"]")
 }

@@ -51,7 +51,7 @@ fn other_values_are_no_keys(rt: HostRuntime) {
 
 fn counted(value: &Value) -> usize {
     match value {
-        Value::Vector(items) => items.items().len(),
+        Value::Vector(items) => items.len(),
         _ => 0,
     }
 }

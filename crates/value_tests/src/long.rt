@@ -25,7 +25,7 @@ fn stack_of(alloc: Global, many: i64) -> Result<SharedStack<Value>, AllocError> 
 fn vector_of(alloc: Global, many: i64) -> Result<Values, AllocError> {
     let mut items = Values::new(alloc);
     for number in 0..many {
-        items.add(Value::Int(number))?;
+        items.push(Value::Int(number))?;
     }
     Ok(items)
 }
@@ -43,7 +43,7 @@ fn long_lists_are_let_go(rt: HostRuntime) -> Result<(), Fail> {
     assert!(rt; is_there(stack.item(999_999)));
     drop(stack);
     let items = vector_of(rt.alloc(), MANY)?;
-    assert_eq!(rt; items.items().len(), 1_000_000);
+    assert_eq!(rt; items.len(), 1_000_000);
     Ok(())
 }
 

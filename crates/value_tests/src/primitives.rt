@@ -22,7 +22,7 @@ fn name_of(fault: OpFault) -> &'static [u8] {
 fn own_values_of(alloc: Global, words: &[u8]) -> Result<Vec<Value>, AllocError> {
     let values = values_of(alloc, words)?;
     let mut own = Vec::new(alloc);
-    for value in values.items() {
+    for value in values.iter() {
         own.push(value.copy(alloc)?).map_err(|_| AllocError)?;
     }
     Ok(own)

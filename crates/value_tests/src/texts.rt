@@ -5,7 +5,7 @@ use value_print::{print_line, readable, str_of};
 
 fn is_line(alloc: Global, words: &[u8], line: &[u8]) -> Result<bool, AllocError> {
     let values = values_of(alloc, words)?;
-    Ok(print_line(alloc, values.items())?.items() == line)
+    Ok(print_line(alloc, values.chunk_from(0))?.items() == line)
 }
 
 #[test]
@@ -46,7 +46,7 @@ fn readable_texts_quote_strings(rt: HostRuntime) -> Result<(), Fail> {
 
 fn is_str(alloc: Global, words: &[u8], text: &[u8]) -> Result<bool, AllocError> {
     let values = values_of(alloc, words)?;
-    Ok(str_of(alloc, values.items())?.items() == text)
+    Ok(str_of(alloc, values.chunk_from(0))?.items() == text)
 }
 
 #[test]

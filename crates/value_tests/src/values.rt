@@ -9,9 +9,8 @@ use value_core::{Reserved, Text, Value, Values};
 fn a_vector(alloc: Global) -> Result<Value, AllocError> {
     let future = Value::Future(name_of(alloc, &[4])?);
     let mut items = Values::new(alloc);
-    items.reserve(2)?;
-    items.add(Value::Map(a_map(alloc)?))?;
-    items.add(future)?;
+    items.push(Value::Map(a_map(alloc)?))?;
+    items.push(future)?;
     Ok(Value::Vector(items))
 }
 
@@ -44,7 +43,7 @@ fn is_equal_to_its_copy(alloc: Global) -> Result<bool, AllocError> {
 fn integers(alloc: Global, numbers: &[i64]) -> Result<Value, AllocError> {
     let mut items = Values::new(alloc);
     for number in numbers {
-        items.add(Value::Int(*number))?;
+        items.push(Value::Int(*number))?;
     }
     Ok(Value::Vector(items))
 }
@@ -59,7 +58,7 @@ fn a_copy_stays(alloc: Global) -> Result<bool, AllocError> {
     let mut items = copy_list(alloc, &[Value::Int(1), Value::Int(2)])?;
     let kept = items.copy()?;
     items.set(0, Value::Int(3))?;
-    items.add(Value::Int(4))?;
+    items.push(Value::Int(4))?;
     let stays = are_integers(alloc, kept, &[1, 2])?;
     let changed = are_integers(alloc, items, &[3, 2, 4])?;
     Ok(stays && changed)

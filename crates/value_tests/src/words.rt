@@ -25,7 +25,7 @@ fn vector_of(alloc: Global, numbers: &[u8]) -> Result<Value, AllocError> {
     let mut items = Values::new(alloc);
     if !numbers.is_empty() {
         for digits in numbers.split(|byte| *byte == b',') {
-            items.add(Value::Int(int_of(digits)))?;
+            items.push(Value::Int(int_of(digits)))?;
         }
     }
     Ok(Value::Vector(items))
@@ -34,7 +34,7 @@ fn vector_of(alloc: Global, numbers: &[u8]) -> Result<Value, AllocError> {
 fn mixed_vector(alloc: Global) -> Result<Value, AllocError> {
     let mut items = Values::new(alloc);
     for word in [b"1".as_slice(), b"\"b", b"nil"] {
-        items.add(plain(alloc, word)?)?;
+        items.push(plain(alloc, word)?)?;
     }
     Ok(Value::Vector(items))
 }
@@ -122,7 +122,7 @@ pub(crate) fn values_of(alloc: Global, words: &[u8]) -> Result<Values, AllocErro
     let mut values = Values::new(alloc);
     if !words.is_empty() {
         for word in words.split(|byte| *byte == b' ') {
-            values.add(value_of(alloc, word)?)?;
+            values.push(value_of(alloc, word)?)?;
         }
     }
     Ok(values)

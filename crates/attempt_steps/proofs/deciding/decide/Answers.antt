@@ -8,5 +8,5 @@ use Rattle.attempt_steps.proofs.deciding.decide.Goals as goal
 
 pub returns-in-Some : goal.returns-in-Some
 returns-in-Some c =
-    decided-abort (shared_of c.args.kept.now) (shared_of c.abort.new.kept) c.args.owner.now c.in-Some.field-0 c.abort.result c.requires.attempt
-    (subst (λ found. IfSome (named c.args.owner.now c.args.kept.now.attempts.entries) (λ tree. IsValidated c.args.kept.now.store.versions tree found)) c.in-Some.is c.in_ok-name.ensures) c.abort.ensures
+    decided-abort (shared_of c.args.kept.now) (shared_of c.abort_for.new.kept) c.args.owner.now c.in-Some.conflict c.abort_for.result c.requires.attempt
+    (subst (λ found. IfSome (named c.args.owner.now c.args.kept.now.attempts.entries) (λ tree. IsValidated c.args.kept.now.store.versions tree found)) c.in-Some.is c.find_changed.ensures) c.abort_for.ensures

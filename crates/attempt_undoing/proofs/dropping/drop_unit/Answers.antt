@@ -1,7 +1,7 @@
 use Rattle.std.proofs.Common.{◌∙◌, ap, sym}
 use Rattle.std.specs.Option.{option_copied}
 use Rattle.std.specs.Prelude.{Some}
-use Rattle.attempt_undoing.proofs.TurnsGone.{unit-drops, unit-still}
+use Rattle.attempt_undoing.proofs.Goes.{unit-drops, unit-still}
 use Rattle.attempt_undoing.proofs.dropping.drop_unit.Goals as goal
 
 pub returns-in-Some-Unit : goal.returns-in-Some-Unit

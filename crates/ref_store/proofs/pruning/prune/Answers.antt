@@ -4,17 +4,17 @@ use Rattle.ref_store.proofs.PruningLaws.{at_end, at_start, kept_at_end}
 use Rattle.ref_store.proofs.pruning.prune.Goals as goal
 
 pub loop-index-init : goal.loop-index-init
-loop-index-init c =
-    at_start c.args.live.now c.args.watched.now.items c.args.refs.now.entries c.len-index.result 1 (omega (arith, c.len-index.ensures, c.args.watched.now.ok.0)) refl c.requires.names c.requires.watched
+loop-index-init g c =
+    at_start (g.L.Live.numbers c.args.live.now) c.args.watched.now.items c.args.refs.now.entries c.len-index.result 1 (omega (arith, c.len-index.ensures, c.args.watched.now.ok.0)) refl c.requires.names c.requires.watched
 
 pub loop-index-preserved : goal.loop-index-preserved
-loop-index-preserved c =
+loop-index-preserved g c =
     let before : c.loop-index.index ≡ c.loop-index.index - 1 + 1 = omega arith in
     c.prune_at-most.ensures c.args.refs.now.entries
-    (subst (λ i. IsPruning c.args.live.now c.args.refs.now.entries c.loop-index.watched.items i c.loop-index.most c.loop-index.refs.entries) before c.loop-index.invariant)
+    (subst (λ i. IsPruning (g.L.Live.numbers c.args.live.now) c.args.refs.now.entries c.loop-index.watched.items i c.loop-index.most c.loop-index.refs.entries) before c.loop-index.invariant)
 
 pub returns-clause-pruned : goal.returns-clause-pruned
-returns-clause-pruned c = at_end c.args.live.now c.args.refs.now.entries c.loop-index.watched.items c.loop-index.index c.loop-index.most c.loop-index.refs.entries (omega arith) c.loop-index.invariant
+returns-clause-pruned g c = at_end (g.L.Live.numbers c.args.live.now) c.args.refs.now.entries c.loop-index.watched.items c.loop-index.index c.loop-index.most c.loop-index.refs.entries (omega arith) c.loop-index.invariant
 
 pub returns-clause-kept : goal.returns-clause-kept
-returns-clause-kept c = kept_at_end c.args.live.now c.args.refs.now.entries c.loop-index.watched.items c.loop-index.index c.loop-index.most c.loop-index.refs.entries (omega arith) c.loop-index.invariant
+returns-clause-kept g c = kept_at_end (g.L.Live.numbers c.args.live.now) c.args.refs.now.entries c.loop-index.watched.items c.loop-index.index c.loop-index.most c.loop-index.refs.entries (omega arith) c.loop-index.invariant

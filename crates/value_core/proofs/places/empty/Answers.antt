@@ -1,4 +1,4 @@
-use Rattle.std.proofs.Common.{sym, ap, subst, Option, Some, None}
+use Rattle.std.proofs.Common.{sym, ap, subst, Option, None}
 use Rattle.std.specs.Option.{option_copied_mut}
 use Rattle.value_core.specs.Named.{named}
 use Rattle.value_core.specs.Placed.{IsEmptied}

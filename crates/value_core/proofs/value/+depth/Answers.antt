@@ -6,10 +6,6 @@ use Rattle.value_core.proofs.value.+depth.Goals as goal
 none_left : (m n : ℕ) → m ≤ 4294967295 → min (max m 0) 4294967295 ≡ n → m ≡ n
 none_left m n le e = omega arith
 
-pub deepest_item-returns : goal.deepest_item-returns
-deepest_item-returns t c =
-    none_left _ _ c.loop-item.invariant.capped (rw (drop_all c.loop-item.item-index c.items-item-items.result.now c.loop-item-test.false) at c.loop-item.invariant.left)
-
 pub deepest_value-returns : goal.deepest_value-returns
 deepest_value-returns t c =
     none_left _ _ c.loop-pair.invariant.capped (rw (drop_all c.loop-pair.pair-index c.items-pair-items.result.now c.loop-pair-test.false) at c.loop-pair.invariant.left)

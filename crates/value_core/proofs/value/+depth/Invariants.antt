@@ -1,11 +1,12 @@
 use Rattle.std.proofs.Common.{◌≡◌, ◌≤◌, min, max, map, drop}
+use Rattle.shared_vector.specs.VectorItems.{items_left}
 use Rattle.value_core.specs.Depth.{depth_of, deepest}
 use Rattle.value_core.proofs.value.+depth.Given as goal
 
 abbrev pub invariant-deepest_item-loop-item : goal.invariant-deepest_item-loop-item
 invariant-deepest_item-loop-item l = record {
   capped : l.most ≤ 4294967295;
-  left : min (max l.most (deepest (map depth_of (drop l.item-index l.item-items)))) 4294967295 ≡ min (deepest (map depth_of l.items)) 4294967295;
+  left : min (max l.most (deepest (map depth_of (items_left l.item-iterator)))) 4294967295 ≡ min (deepest (map depth_of l.items)) 4294967295;
 }
 
 abbrev pub invariant-deepest_value-loop-pair : goal.invariant-deepest_value-loop-pair

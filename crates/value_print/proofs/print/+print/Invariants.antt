@@ -1,14 +1,13 @@
 use Rattle.std.proofs.Common.{◌≡◌, ◌++◌, drop, map, true}
 use Rattle.std.specs.Prelude.{codes, ◌==◌}
+use Rattle.shared_vector.specs.VectorItems.{items_left}
 use Rattle.value_core.specs.Texts.{key_text, value_text}
 use Rattle.value_core.proofs.Joined.{left_at}
 use Rattle.value_print.proofs.print.+print.Given as goal
 
-abbrev pub invariant-push_vector-loop-index : goal.invariant-push_vector-loop-index
-invariant-push_vector-loop-index l = record {
-  all : l.item-items ≡ l.items;
-  written : l.text ++ left_at (codes " ") (l.index == 0) (map (value_text l.style) (drop l.index l.item-items)) ≡ l.initial.text ++ left_at (codes " ") true (map (value_text l.style) l.item-items);
-}
+abbrev pub invariant-push_vector-loop-item : goal.invariant-push_vector-loop-item
+invariant-push_vector-loop-item l =
+    l.text ++ left_at (codes " ") (l.before == 0) (map (value_text l.style) (items_left l.item-iterator)) ≡ l.initial.text ++ left_at (codes " ") true (map (value_text l.style) l.items)
 
 abbrev pub invariant-push_map-loop-index : goal.invariant-push_map-loop-index
 invariant-push_map-loop-index l = record {

@@ -14,8 +14,8 @@ give-requires-clause-run c =
 
 pub invariant_of-self : goal.invariant_of-self
 invariant_of-self c =
-    given-standing (shared_of c.self.inside.kept) (shared_of c.give.new.kept) (returned_of (arc_value c.self.inside.kept.program) c.into_parts-parts.result) c.self.inside.done c.give.result c.self.invariant c.give.ensures
+    given-standing (shared_of c.self.inside.kept) (shared_of c.give.new.kept) (returned_of (arc_value c.self.inside.kept.program) c.into_parts-parts.result) c.self.inside.done c.give.result c.self.invariant c.give.ensures.gives
 
 pub invariant_of-self-2 : goal.invariant_of-self-2
 invariant_of-self-2 c =
-    given-standing (shared_of c.self.inside.kept) (shared_of c.give.new.kept) (returned_of (arc_value c.self.inside.kept.program) c.into_parts-parts.result) c.self.inside.done c.give.result c.self.invariant c.give.ensures
+    given-standing (shared_of c.self.inside.kept) (shared_of c.give.new.kept) (returned_of (arc_value c.self.inside.kept.program) c.into_parts-parts.result) c.self.inside.done c.give.result c.self.invariant c.give.ensures.gives

@@ -1,5 +1,4 @@
-use Rattle.std.proofs.Common.{◌∙◌, sym, ap, subst, cond, Option, None}
-use Rattle.std.specs.Option.{option_and_then}
+use Rattle.std.proofs.Common.{◌∙◌, sym, ap, subst, cond, None}
 use Rattle.value_core.specs.Named.{named, same_name}
 use Rattle.value_core.specs.Placed.{Placed, filled, HasPlace}
 use Rattle.value_core.proofs.PlacedLaws.{emptied_places, emptied_rises, emptied_shows, named_filled}

@@ -1,6 +1,0 @@
-use Rattle.std.proofs.Common.{◌≡◌, length, take}
-use Rattle.eval_step.proofs.sameness.same_values.Given as goal
-
--- the two lists have one length, and agree up to the index
-abbrev pub invariant-loop-index : goal.invariant-loop-index
-invariant-loop-index l = record { lengths : length l.left ≡ length l.right; alike : take l.index l.left ≡ take l.index l.right }

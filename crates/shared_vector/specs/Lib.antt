@@ -1,0 +1,5 @@
+pub mod formers
+pub mod Pieces
+pub mod PiecesPlaced
+pub mod Stored
+pub mod VectorItems

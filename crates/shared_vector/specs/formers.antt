@@ -1,0 +1,3 @@
+pub mod layer
+pub mod shared
+pub mod shared_vector
