@@ -1,5 +1,5 @@
 -- What an actor comes to that begins its turn ahead of the history.
-use Rattle.std.proofs.Common.{◌≡◌, ◌∙◌, cond, ◌++◌, refl, sym, ap, subst}
+use Rattle.std.proofs.Common.{◌≡◌, ◌∙◌, ℕ, cond, ◌++◌, refl, sym, ap, subst}
 use Rattle.std.specs.BTreeMap.{BTreeMap}
 use Rattle.std.specs.Prelude.{None, Some}
 use Rattle.actor_mails.specs.Mails.{IsMailed, mail_at}
@@ -23,7 +23,7 @@ use Rattle.world_steps.specs.declared.kept.Kept.{Kept}
 use Rattle.world_steps.specs.Kept.{IsSameBut, shared_of}
 
 -- what is noted under the name of a turn is seen there
-noted-ahead : (es : Named Leading) (turn key : Name) (l : Leading) (h : Ahead) (old : Named Ahead) → key ≡ turn → ahead_of l ≡ h → each_as ahead_of es ≡ old → IsChanged turn (Some h) old (each_as ahead_of (with_named es key l))
+pub noted-ahead : (es : Named Leading) (turn key : Name) (l : Leading) (h : Ahead) (old : Named Ahead) → key ≡ turn → ahead_of l ≡ h → each_as ahead_of es ≡ old → IsChanged turn (Some h) old (each_as ahead_of (with_named es key l))
 noted-ahead es turn key l h old is_key is_ahead before other =
     ap (named other) (each_as-with_named ahead_of key l es) ∙ named-with_named other key (ahead_of l) (each_as ahead_of es)
     ∙ ap (λ k. cond (same_name other k) (Some (ahead_of l)) (named other (each_as ahead_of es))) is_key
@@ -31,12 +31,11 @@ noted-ahead es turn key l h old is_key is_ahead before other =
     ∙ ap (λ n. cond (same_name other turn) (Some h) (named other n)) before
 
 -- the turn is noted, where there is room for it
-pub noted-so : (old : Shared) (k : Kept) (a turn key : Name) (l : Leading) (map : BTreeMap Name Leading) → key ≡ turn → ahead_of l ≡ begun_by a → IsSameBut old (shared_of k) → HasRoomFor a turn k → map.entries ≡ with_named k.aheads.entries key l
-    → HasNoted old a turn (record k { aheads = map })
-noted-so old k a turn key l map is_key is_ahead same room put = record {
+pub noted-so : (old : Shared) (k : Kept) (a turn : Name) (map : BTreeMap Name Leading) (begun : BTreeMap ℕ Name) → IsSameBut old (shared_of k) → HasRoomFor a turn k → IsChanged turn (Some (begun_by a)) (each_as ahead_of k.aheads.entries) (each_as ahead_of map.entries)
+    → HasNoted old a turn (record k { aheads = map; begun = begun })
+noted-so old k a turn map begun same room changed = record {
   same = record { pieces = same.pieces; claims = same.claims; rest = ap (λ (s : Shared). record s { aheads = old.aheads }) same.rest };
-  aheads = subst (λ (es : Named Leading). IsChanged turn (Some (begun_by a)) old.aheads (each_as ahead_of es)) (sym put)
-      (noted-ahead k.aheads.entries turn key l (begun_by a) old.aheads is_key is_ahead (ap (λ (s : Shared). s.aheads) same.rest));
+  aheads = subst (λ es. IsChanged turn (Some (begun_by a)) es (each_as ahead_of map.entries)) (ap (λ (s : Shared). s.aheads) same.rest) changed;
   room = record { none = room.none; place = room.place; item_place = room.item_place };
 }
 

@@ -5,9 +5,11 @@ ghost use Rattle.actor_turns.specs.Leading.{HasBegunAhead, HasNoted, HasRoomFor}
 ghost use Rattle.actor_mailbox.specs.declared.message.Message.{Message as Letter};
 ghost use Rattle.actor_mails.specs.Mails.{held, mail_at, IsMailed};
 ghost use Rattle.actor_turns.specs.Turning.{AheadComes, IsDueAhead};
-ghost use Rattle.shared_world.specs.rows.Leading.{IsChanged};
-ghost use Rattle.tentative_turn.specs.Turn.{IsTakeOf};
+ghost use Rattle.shared_world.specs.rows.Leading.{IsChanged, begun_by};
+ghost use Rattle.tentative_turn.specs.Turn.{IsTake, IsTakeOf};
+ghost use Rattle.turns_ahead.specs.Leading.{ahead_of};
 ghost use Rattle.unit_table.specs.Board.{actor_at};
+ghost use Rattle.value_core.specs.Named.{each_as, Name as Called};
 ghost use Rattle.value_core.specs.Placed.{filled, HasPlace as HasItemPlace};
 ghost use Rattle.world_steps.specs.Kept.{shared_of, IsSameBut};
 
@@ -17,6 +19,7 @@ use actor_mails::Mails;
 use serial_model::Entry;
 use shared_world::Given;
 use std::alloc::{AllocError, Global};
+use std::collections::BTreeMap;
 use turns_ahead::TurnAhead;
 use unit_table::Mark;
 use value_core::name_map::put;
@@ -57,8 +60,47 @@ fn note_ahead(kept: &mut Kept, alloc: Global, name: &Name, turn: &Name) -> Resul
 {
     room_ahead(kept, alloc, name, turn)?;
     let take = take_entry(&kept.mails, alloc, name)?;
-    let ahead = TurnAhead::begin(alloc, take, turn.copy(alloc)?)?;
-    put(&mut kept.aheads, turn.copy(alloc)?, ahead)
+    let number = number_next(&mut kept.begun, alloc, turn)?;
+    match put_ahead(&mut kept.aheads, alloc, take, turn, number) {
+        Ok(()) => Ok(()),
+        Err(error) => {
+            number_goes(kept.begun.remove(&number));
+            Err(error)
+        }
+    }
+}
+
+/// The turn is the last to have begun, and has a number in that order behind each other one.
+fn number_next(
+    begun: &mut BTreeMap<u64, Name>,
+    alloc: Global,
+    turn: &Name,
+) -> Result<u64, AllocError> {
+    let last = begun.last_key_value().map_or(0, |(last, _)| *last);
+    let number = last.checked_add(1).ok_or(AllocError)?;
+    match begun.insert(number, turn.copy(alloc)?) {
+        Ok(_) => Ok(number),
+        Err(_) => Err(AllocError),
+    }
+}
+
+/// Drops a name that had a number.
+fn number_goes(_name: Option<Name>) {}
+
+/// The turn, which is begun by the entry, runs ahead. For want of memory all stays.
+fn put_ahead(
+    aheads: &mut BTreeMap<Name, TurnAhead>,
+    alloc: Global,
+    take: Entry,
+    turn: &Name,
+    number: u64,
+) -> Result<(), AllocError>
+    requires { IsTake take }
+    ensures begun { OnOk result ((actor : Called) → IsTakeOf take actor → IsChanged turn.now (Some (begun_by actor)) (each_as ahead_of aheads.old.entries) (each_as ahead_of aheads.new.entries)) }
+    ensures same { OnErr result (aheads.new.entries ≡ aheads.old.entries) }
+{
+    let ahead = TurnAhead::begin(alloc, take, turn.copy(alloc)?, number)?;
+    put(aheads, turn.copy(alloc)?, ahead)
 }
 
 /// Room for the turn, under whose name nothing stands, and for the message that its actor takes.

@@ -189,25 +189,30 @@ pub(crate) fn leave_turn(kept: &mut Kept, name: &Name, leave: Leave, still: Stil
 fn level_unless(kept: &mut Kept, name: &Name, leads: bool)
     requires { WaitersAmong kept.old.units name.now (named name.now kept.old.attempts.entries) }
     ensures level { LevelUnless leads name.now (shared_of kept.old) (shared_of kept.new) }
-    ensures others { kept.new ≡ record kept.old { units = kept.new.units; aheads = kept.new.aheads } }
+    ensures others { kept.new ≡ record kept.old { units = kept.new.units; aheads = kept.new.aheads; begun = kept.new.begun } }
     ensures places { (other : Called) → HasPlace kept.old.units other → HasPlace kept.new.units other }
 {
     if leads {
         return;
     }
-    drop_turn(&mut kept.aheads, name);
+    drop_turn(&mut kept.aheads, &mut kept.begun, name);
     wake_waiters(&mut kept.units, &kept.attempts, name);
 }
 
 /// The turn runs ahead no more. It takes no memory.
-fn drop_turn(aheads: &mut BTreeMap<Name, TurnAhead>, name: &Name)
+fn drop_turn(aheads: &mut BTreeMap<Name, TurnAhead>, begun: &mut BTreeMap<u64, Name>, name: &Name)
     ensures { IsChanged name.now None (each_as ahead_of aheads.old.entries) (each_as ahead_of aheads.new.entries) }
 {
-    turn_goes(aheads.remove(name));
+    let turn = aheads.remove(name);
+    forget_number(begun, turn);
 }
 
-/// Drops a turn.
-fn turn_goes(_turn: Option<TurnAhead>) {}
+/// The turn has no number any more in the order of begins.
+fn forget_number(begun: &mut BTreeMap<u64, Name>, turn: Option<TurnAhead>) {
+    if let Some(turn) = turn {
+        begun.remove(&turn.number());
+    }
+}
 
 /// The unit has the mark of a turn that is left so, with an attempt of that root. It takes no memory.
 fn mark_left(units: &mut Units, name: &Name, still: StillAhead, root: Option<Name>)

@@ -1,16 +1,14 @@
 // A turn that runs ahead and sends something.
-ghost use Rattle.std.specs.Prelude.{◌≡◌, ◌↔◌, [], IfOk, IsTrue, Some, length};
-ghost use Rattle.std.specs.Option.{option_copied};
+ghost use Rattle.std.specs.Prelude.{◌≡◌, ◌↔◌, [], IfOk, IsTrue, Some};
 ghost use Rattle.ahead_steps.specs.Leads.{SendsOr};
 ghost use Rattle.ahead_steps.specs.Sending.{CanPut};
 ghost use Rattle.eval_step.specs.Evaluation.{IsAsking};
 ghost use Rattle.shared_world.specs.Ahead.{Ahead as Leading};
 ghost use Rattle.shared_world.specs.rows.Leading.{kept_of_turn};
-ghost use Rattle.shared_world.specs.Seen.{one_or_none};
 ghost use Rattle.shared_world.specs.Stands.{Stands};
 ghost use Rattle.turns_ahead.specs.Leading.{ahead_of};
 ghost use Rattle.value_core.specs.Named.{named};
-ghost use Rattle.world_model.specs.Message.{tentative, unsettled};
+ghost use Rattle.world_model.specs.Message.{tentative};
 ghost use Rattle.world_steps.specs.Kept.{shared_of, IsUnitOf};
 
 use crate::holding::{go_on, hold, prepare};
@@ -22,7 +20,7 @@ use std::alloc::{AllocError, Global};
 use turns_ahead::TurnAhead;
 use value_core::name_map::find;
 use value_core::{Name, Values};
-use world_steps::{Kept, rouse_unless};
+use world_steps::{Kept, count_taken, rouse_unless};
 
 /// The turn holds the send as its last, and goes on. The message is put at once where its receiver is there and each earlier send of the
 /// turn to it is put.
@@ -74,16 +72,6 @@ fn all_put(kept: &Kept, name: &Name, turn: &TurnAhead, to: &Name) -> bool
     let taken = count_taken(kept.taken.get(to), name);
     let mailed = kept.mails.unsettled_of(to, name);
     turn.count_sends(to).saturating_sub(taken) <= mailed
-}
-
-/// How many messages are there of that sender that are not settled, where one may be.
-fn count_taken(message: Option<&Message>, sender: &Name) -> usize
-    ensures { result ≡ length (unsettled sender.now (one_or_none (option_copied message.entry))) }
-{
-    match message {
-        Some(message) if *sender == message.sender && message.depends.is_some() => 1,
-        _ => 0,
-    }
 }
 
 /// The turn holds the send as its last, its message is put, and it goes on. A receiver that can begin a turn is roused.

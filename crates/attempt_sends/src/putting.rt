@@ -1,23 +1,21 @@
 // Sends that are put at once, or kept.
 ghost use Rattle.std.specs.Prelude.{◌≡◌, ◌↔◌, ◌<◌, ◌+◌, ◌≤◌, IfOk, IsTrue, OnErr, OnOk, length};
-ghost use Rattle.std.specs.Option.{option_copied, IsSome};
+ghost use Rattle.std.specs.Option.{IsSome};
 ghost use Rattle.actor_mails.specs.Mails.{held, room_at, KeepsRoom, KeepsRoomBut};
 ghost use Rattle.attempt_sends.specs.Putting.{ArePosted, AreSince, CanPut, HasRoom, HaveRoom, PutAll, PutsOrKeeps};
 ghost use Rattle.shared_world.specs.rows.Leading.{line_at};
-ghost use Rattle.shared_world.specs.Seen.{one_or_none};
 ghost use Rattle.unit_table.specs.Board.{actor_at, HasPlace, SameClaims};
 ghost use Rattle.value_core.specs.Named.{Name as Called};
 ghost use Rattle.world_model.specs.Message.{unsettled};
 ghost use Rattle.world_steps.specs.Kept.{shared_of};
 
 use crate::letters::{Letter, letters_since};
-use actor_mailbox::Message;
 use actor_mails::Mails;
 use std::alloc::{AllocError, Global};
 use unit_table::Units;
 use value_core::Name;
 use value_core::name_map::find;
-use world_steps::{Kept, rouse_unless};
+use world_steps::{Kept, count_taken, rouse_unless};
 
 /// What the root of the unit's attempt has sent since it had done so much is put into the mail of its receivers, one after another; or it is
 /// kept, where its receiver is not there or an earlier send to that is kept. A receiver that can begin a turn is roused. A unit without an
@@ -136,14 +134,4 @@ fn all_put(kept: &Kept, letter: &Letter) -> bool
     let taken = count_taken(kept.taken.get(&letter.to), &letter.message.sender);
     let mailed = kept.mails.unsettled_of(&letter.to, &letter.message.sender);
     letter.earlier.saturating_sub(taken) <= mailed
-}
-
-/// How many messages are there of that sender that are not settled, where one may be.
-fn count_taken(message: Option<&Message>, sender: &Name) -> usize
-    ensures { result ≡ length (unsettled sender.now (one_or_none (option_copied message.entry))) }
-{
-    match message {
-        Some(message) if *sender == message.sender && message.depends.is_some() => 1,
-        _ => 0,
-    }
 }

@@ -1,17 +1,13 @@
 -- A walk over the turns that run ahead.
 use Rattle.std.proofs.Common.{◌≡◌, ◌∙◌, ◌⊎◌, Bool, true, false, cond, inl, inr, [], ◌∷◌, refl, sym, ap, subst}
-use Rattle.std.proofs.lemmas.List.Elements.{All-head, All-tail}
-use Rattle.std.specs.BTreeMap.{BTreeMap, get}
 use Rattle.std.specs.Option.{option_map}
-use Rattle.std.specs.Prelude.{All, None, Option, Some, filter, is_some, slice_index_or}
+use Rattle.std.specs.Prelude.{None, Option, Some, filter, is_some}
 use Rattle.actor_mailbox.specs.declared.message.Message.{Message}
 use Rattle.attempt_undoing.specs.Turns.{IsHanging, NoneHangs, StandingLeft, still_hangs}
 use Rattle.turns_ahead.specs.Leading.{Leading, ahead_of}
 use Rattle.unit_table.specs.Board.{Board, unit_at}
 use Rattle.value_core.proofs.NamedLaws.{found_first, named-first, named-rest, rises-rest, same_name-equal}
-use Rattle.value_core.proofs.NameMaps.{lookup_is_named}
 use Rattle.value_core.proofs.NamedViews.{named-each_as}
-use Rattle.value_core.specs.Name.{after_cmp}
 use Rattle.value_core.specs.Named.{Name, Named, each_as, named, same_name, Rises}
 
 -- those that were passed do not hang; the others are left, and are among all
@@ -54,20 +50,6 @@ walk-done taken board all way n h there = by (named n all) refl (sym (named-each
         on : (still_hangs taken board n (ahead_of k) ≡ false) ⊎ (named n [] ≡ Some k) → still_hangs taken board n (ahead_of k) ≡ false
         on (inl passed) = passed
         on (inr none) = cc
-
--- ---- a part of the walk
--- those that are left are among all
-abbrev pub AreAmong : Named Leading → Named Leading → Type 0
-AreAmong all left = All (λ e. named e.0 all ≡ Some e.1) left
-
--- they are so where each is found
-pub found-among : (m : BTreeMap Name Leading) (left : Named Leading) → All (λ e. get after_cmp m e.0 ≡ Some e.1) left → AreAmong m.entries left
-found-among m left all k d lt = sym (lookup_is_named (slice_index_or left k d).0 m.entries) ∙ all k d lt
-
--- the first of them is, and the others are
-pub among-next : (all left rest : Named Leading) (e : Name × Leading) → left ≡ e ∷ rest → AreAmong all left → (named e.0 all ≡ Some e.1) × AreAmong all rest
-among-next all left rest e is among =
-    let shown = subst (AreAmong all) is among in (All-head (λ k. named k.0 all ≡ Some k.1) e rest shown, All-tail (λ k. named k.0 all ≡ Some k.1) e rest shown)
 
 -- an entry of all hangs where it does by itself
 pub among-hangs : (taken : Named Message) (board : Board) (all : Named Leading) (n : Name) (h : Leading) → named n all ≡ Some h → still_hangs taken board n (ahead_of h) ≡ true → IsHanging (each_as ahead_of all) taken board n (ahead_of h)

@@ -9,21 +9,23 @@ use actor_mailbox::Message;
 use std::collections::{BTreeMap, Bound};
 use turns_ahead::TurnAhead;
 use unit_table::Units;
+use value_core::name_map::find;
 use value_core::{Name, Places};
 
 /// A turn that hangs on what is gone, and is not gone itself: its begin is held, and the message that its actor took for it is
-/// gone. None exactly where there is no such turn. It is sought behind the one that went last first, so that turns which go in the order
-/// of their names are found by one walk. It takes no memory.
+/// gone. None exactly where there is no such turn. It is sought first among those that began after the one that went last: a turn took
+/// what was sent before, so all that hangs is found by one walk in the order of begins. It takes no memory.
 pub(crate) fn next_hanging<'a>(
     aheads: &'a BTreeMap<Name, TurnAhead>,
-    last: Option<&Name>,
+    begun: &'a BTreeMap<u64, Name>,
+    last: u64,
     taken: &Places<Message>,
     units: &Units,
 ) -> Option<(&'a Name, &'a TurnAhead)>
     ensures some { IfSome result (λ found. IsHanging (each_as ahead_of aheads.now.entries) (filled taken.now) units.now found.0.now (ahead_of found.1.now)) }
     ensures none { IsNone result → NoneHangs (each_as ahead_of aheads.now.entries) (filled taken.now) units.now }
 {
-    if let Some(found) = hanging_behind(aheads, last, taken, units) {
+    if let Some(found) = hanging_after(aheads, begun, last, taken, units) {
         return Some(found);
     }
     for (name, turn) in aheads.iter() {
@@ -34,19 +36,21 @@ pub(crate) fn next_hanging<'a>(
     None
 }
 
-/// One of those that hang behind the turn that went last, where one has gone. There may be others, where none comes.
-fn hanging_behind<'a>(
+/// The first that hangs of those that began after the turn with that number. There may be others, where none comes.
+fn hanging_after<'a>(
     aheads: &'a BTreeMap<Name, TurnAhead>,
-    last: Option<&Name>,
+    begun: &'a BTreeMap<u64, Name>,
+    last: u64,
     taken: &Places<Message>,
     units: &Units,
 ) -> Option<(&'a Name, &'a TurnAhead)>
     ensures { IfSome result (λ found. IsHanging (each_as ahead_of aheads.now.entries) (filled taken.now) units.now found.0.now (ahead_of found.1.now)) }
 {
-    let last = last?;
-    for (next, turn) in aheads.range((Bound::Excluded(last), Bound::Unbounded)) {
-        if still_hangs(next, turn, taken, units) {
-            return Some((next, turn));
+    for (_, next) in begun.range((Bound::Excluded(last), Bound::Unbounded)) {
+        if let Some(turn) = find(aheads, next) {
+            if still_hangs(next, turn, taken, units) {
+                return Some((next, turn));
+            }
         }
     }
     None
@@ -78,4 +82,13 @@ pub(crate) fn standing(
 {
     aheads.retain(|name, _| units.unit(name).is_some());
     aheads
+}
+
+/// The numbers of the turns that run ahead still. It takes no memory.
+pub(crate) fn numbered(
+    mut begun: BTreeMap<u64, Name>,
+    aheads: &BTreeMap<Name, TurnAhead>,
+) -> BTreeMap<u64, Name> {
+    begun.retain(|_, name| find(aheads, name).is_some());
+    begun
 }

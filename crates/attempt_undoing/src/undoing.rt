@@ -13,7 +13,7 @@ ghost use Rattle.value_core.specs.Named.{each_as, named};
 ghost use Rattle.world_steps.specs.Kept.{shared_of};
 
 use crate::dropping::{drop_tree, drop_turn};
-use crate::hanging::{next_hanging, standing};
+use crate::hanging::{next_hanging, numbered, standing};
 use attempts_gone::{prune_by_walk, take_named};
 use std::alloc::Global;
 use std::collections::BTreeMap;
@@ -84,9 +84,11 @@ fn undo_taken(kept: &mut Kept, alloc: Global, unit: Name, tree: Tree) -> Undone
     ensures reads { result.reads.items ≡ tree.reads }
 {
     let aheads = mem::replace(&mut kept.aheads, BTreeMap::new(alloc));
+    let begun = mem::replace(&mut kept.begun, BTreeMap::new(alloc));
     let reads = drop_tree(kept, tree);
-    drop_hanging(kept, &aheads);
+    drop_hanging(kept, &aheads, &begun);
     kept.aheads = standing(aheads, &kept.units);
+    kept.begun = numbered(begun, &kept.aheads);
     make_ready(&mut kept.units, &unit);
     prune_by_walk(&kept.attempts, &mut kept.store);
     kept.units.lent_are_ready();
@@ -94,15 +96,15 @@ fn undo_taken(kept: &mut Kept, alloc: Global, unit: Name, tree: Tree) -> Undone
 }
 
 /// The turns that hang on what is gone are gone, one after another, with what they and their attempts have sent. It takes no memory.
-fn drop_hanging(kept: &mut Kept, aheads: &BTreeMap<Name, TurnAhead>)
+fn drop_hanging(kept: &mut Kept, aheads: &BTreeMap<Name, TurnAhead>, begun: &BTreeMap<u64, Name>)
     requires marks { ActorsMarked (shared_of kept.old) }
     ensures gone { HangingGone (each_as ahead_of aheads.now.entries) (shared_of kept.old) (shared_of kept.new) }
     ensures others { kept.new ≡ record kept.old { units = kept.new.units; attempts = kept.new.attempts; mails = kept.new.mails; taken = kept.new.taken } }
 {
-    let mut last = None;
-    while let Some((name, turn)) = next_hanging(aheads, last, &kept.taken, &kept.units) {
+    let mut last = 0;
+    while let Some((name, turn)) = next_hanging(aheads, begun, last, &kept.taken, &kept.units) {
         drop_turn(kept, name, turn);
-        last = Some(name);
+        last = turn.number();
     }
 }
 

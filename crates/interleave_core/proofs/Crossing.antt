@@ -197,14 +197,17 @@ kept_send = declared_send kept.the_type (
               (
                 search (name_send, turn_ahead_send, maps.crosses, fields) depth 60 fits 20000,
                 (
-                  search (name_send, tree_send, maps.crosses, fields) depth 60 fits 20000,
+                  search (name_send, maps.crosses, fields) depth 60 fits 20000,
                   (
-                    search (owners_send, fields) depth 60 fits 20000,
+                    search (name_send, tree_send, maps.crosses, fields) depth 60 fits 20000,
                     (
-                      search fields depth 60 fits 20000,
+                      search (owners_send, fields) depth 60 fits 20000,
                       (
                         search fields depth 60 fits 20000,
-                        (search (end_send, fields) depth 60 fits 20000, tt),
+                        (
+                          search fields depth 60 fits 20000,
+                          (search (end_send, fields) depth 60 fits 20000, tt),
+                        ),
                       ),
                     ),
                   ),

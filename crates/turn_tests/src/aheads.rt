@@ -7,7 +7,7 @@ use turns_ahead::TurnAhead;
 /// The turn 0.1.7 of the actor 0.1, whose begin is held.
 fn begun(alloc: Global) -> Result<TurnAhead, AllocError> {
     let take = Entry::Take(name(alloc, "0.1")?, name(alloc, "0")?);
-    TurnAhead::begin(alloc, take, name(alloc, "0.1.7")?)
+    TurnAhead::begin(alloc, take, name(alloc, "0.1.7")?, 0)
 }
 
 /// What becomes of the request, in words.

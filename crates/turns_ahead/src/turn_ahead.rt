@@ -27,6 +27,8 @@ pub struct TurnAhead {
     becomes: Option<Becoming>,
     // Whether it waits until it is definite and holds nothing.
     waits: bool,
+    // Its number among the turns that run ahead, in the order in which they began.
+    number: u64,
 }
 
 impl Model for TurnAhead {
@@ -42,8 +44,9 @@ impl Model for TurnAhead {
 }
 
 impl TurnAhead {
-    /// The turn of that name, which is begun by the entry: it holds that alone, and the history knows nothing of it.
-    pub fn begin(alloc: Global, take: Entry, turn: Name) -> Result<Self, AllocError>
+    /// The turn of that name, which is begun by the entry and has that number in the order of begins: it holds that alone, and the
+    /// history knows nothing of it.
+    pub fn begin(alloc: Global, take: Entry, turn: Name, number: u64) -> Result<Self, AllocError>
         requires { IsTake take }
         ensures { IfOk result (HasBegun take turn) }
     {
@@ -53,7 +56,13 @@ impl TurnAhead {
             made: 0,
             becomes: None,
             waits: false,
+            number,
         })
+    }
+
+    /// The number that it has in the order of begins. Nothing is proved of it: it says where to look for a turn first.
+    pub fn number(&self) -> u64 {
+        self.number
     }
 
     /// Whether the turn has that name, is one of that actor, and has made so many things.

@@ -37,10 +37,11 @@ fn forget(kept: &mut Kept, alloc: Global)
     ensures aheads { kept.new.aheads.entries ≡ [] }
     ensures attempts { kept.new.attempts.entries ≡ [] }
     ensures versions { ArePrunedFor kept.new.attempts.entries kept.old.store.versions kept.new.store.versions }
-    ensures others { kept.new ≡ record kept.old { store = kept.new.store; taken = kept.new.taken; aheads = kept.new.aheads; attempts = kept.new.attempts } }
+    ensures others { kept.new ≡ record kept.old { store = kept.new.store; taken = kept.new.taken; aheads = kept.new.aheads; begun = kept.new.begun; attempts = kept.new.attempts } }
 {
     kept.taken = Places::new(alloc);
     kept.aheads.clear();
+    kept.begun.clear();
     kept.attempts.clear();
     prune(&kept.attempts, &mut kept.store, Vec::new(alloc));
 }

@@ -1,6 +1,6 @@
 // What a unit does to actors.
-ghost use Rattle.std.specs.Prelude.{◌≡◌, ◌∷◌, [], IfOk, IfSome, OnErr, OnOk, Some, None};
-ghost use Rattle.std.specs.Option.{IsSome, option_map};
+ghost use Rattle.std.specs.Prelude.{◌≡◌, ◌∷◌, [], IfOk, IfSome, OnErr, OnOk, Some, None, length};
+ghost use Rattle.std.specs.Option.{IsSome, option_copied, option_map};
 ghost use Rattle.actor_mails.specs.Mails.{held, mail_at};
 ghost use Rattle.eval_step.specs.Evaluation.{IsAsking};
 ghost use Rattle.serial_model.specs.declared.actor_state.ActorState.{ActorState as Acting};
@@ -8,6 +8,7 @@ ghost use Rattle.serial_model.specs.declared.halt.Halt.TheVariants as halts;
 ghost use Rattle.serial_model.specs.declared.request.Request.TheVariants as requests;
 ghost use Rattle.serial_model.specs.Step as row;
 ghost use Rattle.shared_world.specs.rows.Actors.{actor_with, roused, roused_unless};
+ghost use Rattle.shared_world.specs.Seen.{one_or_none};
 ghost use Rattle.shared_world.specs.Shared.{actor_of, becoming_of, unit_state};
 ghost use Rattle.shared_world.specs.Stands.{Stands};
 ghost use Rattle.unit_table.specs.Board.{piece_at, unit_at, HasPlace, IsPutAt, SameClaims};
@@ -15,6 +16,7 @@ ghost use Rattle.unit_table.specs.declared.mark.Mark.TheVariants as marks;
 ghost use Rattle.unit_table.specs.declared.piece.Piece.TheVariants as pieces;
 ghost use Rattle.value_core.specs.Named.{Name as Called};
 ghost use Rattle.value_core.specs.NameSet.{holds_at};
+ghost use Rattle.world_model.specs.Message.{unsettled};
 ghost use Rattle.world_steps.specs.Acting.{is_at_rest, says_resting, IsFreed, IsMaking, RestsAt};
 ghost use Rattle.world_steps.specs.Kept.{shared_of, IsSameBut, IsUnitOf};
 ghost use Rattle.world_steps.specs.Rows.{Comes, FinishesOr, SpawnsOr, TurnsIntoOr};
@@ -322,6 +324,17 @@ pub fn rouse_unless(units: &mut Units, begun: bool, name: &Name)
 {
     if !begun {
         rouse(units, name);
+    }
+}
+
+/// How many messages are there of that sender that are not settled: one or none, as an actor takes one at a time. It
+/// takes no memory.
+pub fn count_taken(message: Option<&Message>, sender: &Name) -> usize
+    ensures { result ≡ length (unsettled sender.now (one_or_none (option_copied message.entry))) }
+{
+    match message {
+        Some(message) if *sender == message.sender && message.depends.is_some() => 1,
+        _ => 0,
     }
 }
 

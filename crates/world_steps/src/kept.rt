@@ -32,7 +32,8 @@ use value_core::name_map::find;
 use value_core::{Name, Places, Value};
 
 /// What the world keeps. Of each actor the message is taken of its turn whose begin is held; and each turn that runs ahead is kept
-/// by the name of its unit.
+/// by the name of its unit. Their names are kept by the order in which they began as well, so that who seeks those that hang on others finds
+/// each behind what it hangs on; nothing is proved of that order.
 #[derive(Drop)]
 pub struct Kept {
     pub program: Arc<Program>,
@@ -43,6 +44,7 @@ pub struct Kept {
     pub mails: Mails,
     pub taken: Places<Message>,
     pub aheads: BTreeMap<Name, TurnAhead>,
+    pub begun: BTreeMap<u64, Name>,
     pub attempts: BTreeMap<Name, Tree>,
     pub owners: Places<Name>,
     pub output: Vec<u8>,

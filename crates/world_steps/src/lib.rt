@@ -8,7 +8,7 @@ mod opening;
 mod requests;
 mod units;
 
-pub use actors::{add_actor, idle, rouse, rouse_unless};
+pub use actors::{add_actor, count_taken, idle, rouse, rouse_unless};
 pub use attempts::add_task;
 pub use kept::{Kept, Marks, Ready, answered, append, move_to};
 pub use units::value_of;

@@ -38,6 +38,7 @@ impl Kept {
             mails: Mails::new(alloc),
             taken: Places::new(alloc),
             aheads: BTreeMap::new(alloc),
+            begun: BTreeMap::new(alloc),
             attempts: BTreeMap::new(alloc),
             owners: Places::new(alloc),
             output: Vec::new(alloc),

@@ -1,4 +1,4 @@
-use Rattle.std.proofs.Common.{◌≡◌, ap, refl, reverse, subst}
+use Rattle.std.proofs.Common.{ap, refl, reverse, subst}
 use Rattle.attempt_undoing.proofs.Goes.{tasks-end, tasks-go, tasks-still}
 use Rattle.attempt_undoing.proofs.SendsGone.{right-marked}
 use Rattle.attempt_undoing.proofs.Steps.{done-of, tasks-marked}
