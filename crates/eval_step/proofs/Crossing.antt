@@ -2,29 +2,20 @@
 use denote.Param.Send.{IsSend, IsSync, sendable}
 use denote.Param.SendFields.{as_row_sync, declared_sync, variants_sync}
 use Rattle.std.proofs.Crossing.{crosses}
-use Rattle.value_core.proofs.Crossing.{value_send, value_sync, values_send}
-use Rattle.serial_model.proofs.Crossing.{fields, halt_send}
+use Rattle.value_core.proofs.Crossing.{values_send}
+use Rattle.serial_model.proofs.Crossing.{fields}
+use Rattle.eval_frames.proofs.Crossing.{frame_send, frame_sync, registers_send}
 use Rattle.answer_runs.proofs.Crossing.{answers_send}
 use Rattle.shared_chain.proofs.Crossing.{link_send, link_sync, below_send}
 use Rattle.shared_chain.specs.contracts.chain.Chain as chain
 use Rattle.shared_chain.specs.contracts.chunk.Chunk as chunk
 use Rattle.shared_chain.specs.contracts.stack.SharedStack as shared_stack
 use Rattle.eval_step.specs.contracts.context.Context as context
-use Rattle.eval_step.specs.contracts.control.Control as control
-use Rattle.eval_step.specs.contracts.frame.Frame as frame
 use Rattle.eval_step.specs.contracts.item.Item as item
 use Rattle.eval_step.specs.contracts.machine.Machine as machine
+use Rattle.eval_step.specs.contracts.parts.Parts as parts
 use Rattle.eval_step.specs.contracts.stack.Stack as stack
 use Rattle.eval_step.specs.contracts.walk.Walk as walk
-
-control_send : IsSend control.the_row
-control_send = search (value_send, halt_send, fields) depth 60 fits 20000
-
-frame_send : IsSend frame.the_row
-frame_send = search (value_send, fields) depth 60 fits 20000
-
-frame_sync : IsSync frame.the_row
-frame_sync = search (value_sync, as_row_sync, declared_sync, crosses, sendable) depth 60 fits 20000
 
 item_send : IsSend item.the_row
 item_send = search (frame_send, fields) depth 60 fits 20000
@@ -51,7 +42,10 @@ context_send : IsSend context.the_row
 context_send = search (frame_send, stack_send, fields) depth 60 fits 20000
 
 walk_send : IsSend walk.the_row
-walk_send = search (control_send, context_send, fields) depth 60 fits 20000
+walk_send = search (registers_send, context_send, fields) depth 60 fits 20000
+
+parts_send : IsSend parts.the_row
+parts_send = search (walk_send, values_send, answers_send, fields) depth 60 fits 20000
 
 pub machine_send : IsSend machine.the_row
-machine_send = search (walk_send, values_send, answers_send, fields) depth 60 fits 20000
+machine_send = search (parts_send, fields) depth 60 fits 20000

@@ -1,30 +1,18 @@
--- Frames that differ at most at one place.
-use Rattle.std.proofs.Common.{eq-eqb, ◌≡◌, ◌≢◌, ◌∙◌, ℕ, zero, suc, ◌-◌, ◌<◌, get_or, Bool, true, false, ◌||◌, List, [], ◌∷◌, ◌++◌, length, take, set, refl, sym, ap, subst}
+-- What is done alike with frames that differ at most at one place.
+use Rattle.std.proofs.Common.{eq-eqb, ◌≡◌, ◌≢◌, ◌∙◌, ℕ, zero, suc, ◌-◌, Bool, true, false, ◌||◌, List, [], ◌∷◌, ◌++◌, length, take, refl, sym, ap, subst}
 use Rattle.std.specs.Prelude.{◌==◌, Some, unwrap_or}
 use Rattle.std.specs.List.{slice_get}
-use Rattle.std.proofs.lemmas.Option.{slice_get_read}
 use Rattle.value_core.specs.declared.value.Value.{Value}
 use Rattle.value_core.specs.declared.value.Value.TheVariants as value
 use Rattle.core_syntax.specs.declared.node.Node.{Node}
 use Rattle.core_syntax.specs.declared.node.Node.TheVariants as node
 use Rattle.serial_model.specs.declared.request.Request.TheVariants as request
 use Rattle.serial_model.specs.Operation.{Gives, Calls, local_value, hidden_values, sealed, operate}
-use Rattle.eval_step.specs.Finish.{finish}
-use Rattle.eval_step.specs.Frame.{shorter}
-use Rattle.eval_step.specs.Unread.{AgreeBut, is_one_of, reads}
-
--- a frame and itself
-pub agree-same : (place : ℕ) (frame : List Value) → AgreeBut place frame frame
-agree-same place [] = tt
-agree-same zero (v ∷ frame) = refl
-agree-same (suc place) (v ∷ frame) = (refl, agree-same place frame)
-
--- a frame with another value at the place
-pub agree-set : (place : ℕ) (frame : List Value) (w : Value) → AgreeBut place frame (set frame place w)
-agree-set zero [] w = tt
-agree-set (suc place) [] w = tt
-agree-set zero (v ∷ frame) w = refl
-agree-set (suc place) (v ∷ frame) w = (refl, agree-set place frame w)
+use Rattle.eval_frames.specs.Agreeing.{AgreeBut}
+use Rattle.eval_frames.specs.Finish.{finish}
+use Rattle.eval_frames.specs.Frame.{shorter}
+use Rattle.eval_frames.proofs.Agreeing.{agree-same}
+use Rattle.eval_step.specs.Unread.{is_one_of, reads}
 
 pub agree-push : (place : ℕ) (frame other : List Value) (x : Value) → AgreeBut place frame other → AgreeBut place (frame ++ x ∷ []) (other ++ x ∷ [])
 agree-push place [] [] x agree = agree-same place (x ∷ [])
@@ -57,9 +45,6 @@ agree-shorter count place frame other agree =
     (agree-take (length frame - count) place frame other agree)
 
 -- ---- what stands at a place
-pub local-read : (values : List Value) (place : ℕ) (x : Value) → place < length values → x ≡ get_or values place x → x ≡ local_value values place
-local-read values place x within is = sym (ap (λ found. unwrap_or found value.Nil) (slice_get_read values (length values) place x refl within is))
-
 agree-get : (q place : ℕ) (frame other : List Value) → q ≢ place → AgreeBut place frame other → slice_get frame q ≡ slice_get other q
 agree-get q place [] [] differ agree = refl
 agree-get q place [] (w ∷ other) differ agree = absurd agree

@@ -15,16 +15,16 @@ use Rattle.serial_model.specs.declared.answer.Answer.{Answer}
 use Rattle.serial_model.specs.Eval.{Out, Evals, then_go, level, by_arguments, dosync, in_turn, begin_at, run_steps, turn}
 use Rattle.serial_model.specs.Operation.{local_value}
 use Rattle.eval_step.specs.declared.context.Context.{Context}
-use Rattle.eval_step.specs.declared.control.Control.{Control}
-use Rattle.eval_step.specs.declared.control.Control.TheVariants as control
+use Rattle.eval_frames.specs.Control.{Control}
+use Rattle.eval_frames.specs.Control as control
 use Rattle.eval_step.specs.declared.item.Item.{Item}
 use Rattle.eval_step.specs.declared.item.Item.TheVariants as item
 use Rattle.eval_step.specs.Resume.{run, resume, parts_on, bound_on, steps_on}
 use Rattle.eval_step.specs.Steps.{argued, entered, Begins, Enters, EntersArguments, TakesPart, TakesBound, TakesStep}
 use Rattle.eval_step.specs.Unread.{GoesOnAlike}
 use Rattle.eval_step.specs.Walk.{ItemIn}
-use Rattle.eval_step.proofs.Comings.{comes_to_pushed, comes_to_node}
-use Rattle.eval_step.proofs.Outs.{then_go-assoc, then_go-nothing}
+use Rattle.eval_step.proofs.ComesTo.{comes_to_pushed, comes_to_node, comes_to_more}
+use Rattle.eval_step.proofs.Sequencing.{then_go-assoc, then_go-nothing}
 use Rattle.eval_step.proofs.Rows.{row_at}
 use Rattle.eval_step.proofs.Taking.{drop_zero, bound_on-first}
 
@@ -47,7 +47,7 @@ module _ (table : Table) (inside : Bool) (frame : List Value) (stack : List Item
             ∙ ap (λ n. then_go (parts_on (run table inside) frame n 0 fuel answers) (resume table inside frame stack)) (sym (seen ∙ ap (λ n. Some n) is))
             ∙ taken.same fuel answers;
         there = taken.there;
-        small = taken.small;
+        small = let small = taken.small in omega arith;
       }
 
   pub enters_let : (bound : List NodeId) (body : NodeId) (new : Context) (stands : Control) → which ≡ node.Let bound body
@@ -62,7 +62,7 @@ module _ (table : Table) (inside : Bool) (frame : List Value) (stack : List Item
             ∙ ap (λ n. bound_on (run table inside) frame n 0 (λ outer. resume table inside outer stack) fuel answers) (sym (seen ∙ ap (λ n. Some n) is))
             ∙ taken.same fuel answers;
         there = taken.there;
-        small = taken.small;
+        small = let small = taken.small in omega arith;
       }
 
   pub enters_if : (condition taken other : NodeId) (new : List Item) → which ≡ node.If condition taken other
@@ -76,19 +76,19 @@ module _ (table : Table) (inside : Bool) (frame : List Value) (stack : List Item
       let first : condition.index < id.index = All-head (IsBelow id.index) condition (taken ∷ other ∷ []) all in
       let second : taken.index < id.index = All-head (IsBelow id.index) taken (other ∷ []) rest in
       let third : other.index < id.index = All-head (IsBelow id.index) other [] (All-tail (IsBelow id.index) taken (other ∷ []) rest) in
-      comes_to_pushed table inside _ frame stack items new (item.Choose taken other) condition pushed (omega arith, omega arith) (omega arith) (λ fuel answers.
+      comes_to_more table inside _ (length stack) _ _ (comes_to_pushed table inside _ frame stack items new (item.Choose taken other) condition pushed (omega arith, omega arith) (omega arith) (λ fuel answers.
       enters_node r.at fuel answers r.found
       ∙ ap (λ n. then_go (level table inside (run table inside) frame r.at n fuel answers) (resume table inside frame stack)) is
-      ∙ then_go-assoc (run table inside frame condition fuel answers) _ _)
+      ∙ then_go-assoc (run table inside frame condition fuel answers) _ _))
 
   pub enters_inside : (body : NodeId) → which ≡ node.Dosync body → inside ≡ true → body.index < length table.nodes
       → Enters table inside id (record { frame = frame; stack = stack }) (record { frame = frame; stack = stack }) (control.Enter body)
   enters_inside body is within below =
       let r = row_at table.nodes id which seen in
-      comes_to_node table inside _ frame stack items body below (λ fuel answers.
+      comes_to_more table inside _ (length stack) _ _ (comes_to_node table inside _ frame stack items body below (λ fuel answers.
       enters_node r.at fuel answers r.found
       ∙ ap (λ n. then_go (level table inside (run table inside) frame r.at n fuel answers) (resume table inside frame stack)) is
-      ∙ ap (λ b. then_go (dosync table b (run table inside) frame r.at body fuel answers) (resume table inside frame stack)) within)
+      ∙ ap (λ b. then_go (dosync table b (run table inside) frame r.at body fuel answers) (resume table inside frame stack)) within))
 
   -- a node whose level is its arguments and its operation
   pub enters_others : (new : Context) (stands : Control)
@@ -180,7 +180,7 @@ pub enters_local : (table : Table) (inside : Bool) (frame : List Value) (stack :
     → Enters table inside id (record { frame = frame; stack = stack }) new (control.Deliver v)
 enters_local table inside frame stack items id which seen place v new is read alike =
     let r = row_at table.nodes id which seen in
-    let P : List Item → Type 0 = λ s. 2 * length s + 2 ≤ 2 * length stack + 3 in
+    let P : List Item → Type 0 = λ s. 2 * length s + 3 ≤ 2 * length stack + 4 in
     record {
       same = λ fuel answers.
           enters_node table inside frame stack items id which seen r.at fuel answers r.found

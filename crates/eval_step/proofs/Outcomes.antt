@@ -1,5 +1,5 @@
 -- What the operation of a node comes to in a context.
-use Rattle.std.proofs.Common.{◌≡◌, ◌∙◌, ℕ, ◌<◌, Bool, true, false, List, [], ◌∷◌, length, sym, ap, subst}
+use Rattle.std.proofs.Common.{◌≡◌, ◌≢◌, ◌∙◌, ℕ, ◌+◌, ◌*◌, ◌<◌, Bool, true, false, List, [], ◌∷◌, length, refl, sym, ap, subst}
 use Rattle.std.specs.Prelude.{All, Some, if◌then◌else◌, Result, Ok, Err}
 use Rattle.std.specs.List.{slice_get}
 use Rattle.std.proofs.lemmas.List.Elements.{All-head}
@@ -11,6 +11,7 @@ use Rattle.value_core.specs.primitives.Apply.{apply_of, limited}
 use Rattle.value_core.specs.primitives.Parts.{paired, put_rule}
 use Rattle.value_core.specs.primitives.Words.{takes_of}
 use Rattle.value_core.specs.declared.op_fault.OpFault.{OpFault}
+use Rattle.value_core.specs.declared.op.Op.{Op}
 use Rattle.value_core.specs.declared.op.Op.TheVariants as op
 use Rattle.core_syntax.specs.declared.function.Function.{Function}
 use Rattle.core_syntax.specs.declared.node.Node.{Node}
@@ -19,16 +20,18 @@ use Rattle.core_syntax.specs.declared.node_id.NodeId.{NodeId}
 use Rattle.core_syntax.specs.Table.{Table}
 use Rattle.core_syntax.specs.WellFormed.{FunctionsBelow}
 use Rattle.serial_model.specs.declared.answer.Answer.{Answer}
+use Rattle.serial_model.specs.declared.halt.Halt.TheVariants as halt
 use Rattle.serial_model.specs.declared.request.Request.{Request}
 use Rattle.serial_model.specs.Eval.{then_go, come, call}
-use Rattle.serial_model.specs.Operation.{Action, Calls, action_of, some_future, with_ref, with_actor, with_future, of_one, of_two, of_first, deref_outcome, ref_set_outcome, join_outcome, send_outcome, sealed}
+use Rattle.serial_model.specs.Operation.{Action, Gives, Faults, Asks, Calls, action_of, some_future, with_ref, with_actor, with_future, of_one, of_two, of_first, deref_outcome, ref_set_outcome, join_outcome, send_outcome, sealed}
 use Rattle.eval_step.specs.declared.context.Context.{Context}
-use Rattle.eval_step.specs.declared.control.Control.{Control}
+use Rattle.eval_frames.specs.Control.{Control}
 use Rattle.eval_step.specs.declared.item.Item.{Item}
-use Rattle.eval_step.specs.Finish.{finish}
+use Rattle.eval_frames.specs.Finish.{Acts, IsAct, finish}
 use Rattle.eval_step.specs.Resume.{run, resume}
 use Rattle.eval_step.specs.Steps.{operated, Operates, CallsBody}
-use Rattle.eval_step.specs.Walk.{ItemIn}
+use Rattle.eval_step.specs.Walk.{ComesTo, ItemIn}
+use Rattle.eval_step.proofs.ComesTo.{comes_to_value, comes_to_halt}
 
 module _ (table : Table) (frame : List Value) (stack : List Item) (items : All (ItemIn (length table.nodes)) stack) (id : NodeId) (which : Node) (at : Spot) (found : slice_get table.nodes id.index ≡ Some (record { node = which; at = at })) (values : List Value) where
   -- the operation is that of the node
@@ -52,6 +55,30 @@ module _ (table : Table) (frame : List Value) (stack : List Item) (items : All (
         there = called.there;
         small = called.small;
       }
+
+  -- the operation comes to what stands there
+  abbrev OperatesTo : Bool → Control → Type 0
+  OperatesTo inside stands =
+      ComesTo table inside (λ fuel answers. then_go (operated table (run table inside) frame (slice_get table.nodes id.index) values fuel answers) (resume table inside frame stack))
+      (2 * length stack + 3) (record { frame = frame; stack = stack }) stands
+
+  -- what is done without a call
+  pub operates_acts : (stands : Control) → Acts (finish frame which values) at stands → Operates table id values (record { frame = frame; stack = stack }) (record { frame = frame; stack = stack }) stands
+  operates_acts stands acts inside = on (finish frame which values) refl acts
+    where
+      on : (meant : Action) → meant ≡ finish frame which values → Acts meant at stands → OperatesTo inside stands
+      on (Gives v) is done = subst (OperatesTo inside) (sym done) (comes_to_value table inside _ frame stack items v (λ fuel answers. came inside (Gives v) fuel answers is))
+      on (Faults code) is done = subst (OperatesTo inside) (sym done) (comes_to_halt table inside _ frame stack items (halt.Fault code at) (λ fuel answers. came inside (Faults code) fuel answers is))
+      on (Asks asked) is done = subst (OperatesTo inside) (sym done) (comes_to_halt table inside _ frame stack items (halt.Ask asked at) (λ fuel answers. came inside (Asks asked) fuel answers is))
+      on (Calls number callee) is done = absurd done
+
+-- a node of another kind is no primitive, no vector and no call
+pub is-act : (which : Node) → ((op : Op) (written : List NodeId) → which ≢ node.Op op written) → ((items : List NodeId) → which ≢ node.Vector items)
+    → ((number : ℕ) (hidden : List ℕ) (written : List NodeId) → which ≢ node.Call number hidden written) → IsAct which
+is-act (node.Op op written) no_op no_vector no_call = absurd (no_op op written refl)
+is-act (node.Vector items) no_op no_vector no_call = absurd (no_vector items refl)
+is-act (node.Call number hidden written) no_op no_vector no_call = absurd (no_call number hidden written refl)
+is-act other no_op no_vector no_call = tt
 
 -- ---- a node calls only a function that it names
 -- a function that is called is one of the first n

@@ -17,12 +17,13 @@ use Rattle.serial_model.specs.Eval.{Out, Next, then_go, each, in_turn, bind, cho
 use Rattle.serial_model.specs.Operation.{arguments, operate}
 use Rattle.eval_step.specs.declared.item.Item.{Item}
 use Rattle.eval_step.specs.declared.item.Item.TheVariants as item
-use Rattle.eval_step.specs.Finish.{finish}
-use Rattle.eval_step.specs.Frame.{shorter}
+use Rattle.eval_frames.specs.Finish.{finish}
+use Rattle.eval_frames.specs.Frame.{shorter}
 use Rattle.eval_step.specs.Resume.{run, resume, arguments_on, parts_on, bound_on}
-use Rattle.eval_step.specs.Unread.{AgreeBut, reads, Spares, SparesFrom, SparesBehind, ItemSpares}
+use Rattle.eval_frames.specs.Agreeing.{AgreeBut}
+use Rattle.eval_step.specs.Unread.{reads, Spares, SparesFrom, SparesBehind, ItemSpares}
 use Rattle.eval_step.proofs.Frames.{agree-push, agree-shorter, agree-operate, agree-finish}
-use Rattle.eval_step.proofs.Outs.{then_go-same}
+use Rattle.eval_step.proofs.Sequencing.{then_go-same}
 use Rattle.eval_step.proofs.Runs.{run-enters, run-spent}
 use Rattle.eval_step.proofs.Taking.{drop_some, drop_none, drop_zero}
 

@@ -14,11 +14,11 @@ use Rattle.core_syntax.specs.Table.{Table, steps_of}
 use Rattle.serial_model.specs.declared.answer.Answer.{Answer}
 use Rattle.serial_model.specs.Eval.{Out, Next, Evals, then_go, each, in_turn, bind, come, run_steps}
 use Rattle.serial_model.specs.Operation.{arguments, operate}
-use Rattle.eval_step.specs.Finish.{finish, hidden_of}
-use Rattle.eval_step.specs.Frame.{shorter}
+use Rattle.eval_frames.specs.Finish.{finish, hidden_of}
+use Rattle.eval_frames.specs.Frame.{shorter}
 use Rattle.eval_step.specs.Resume.{arguments_on, parts_of, parts_on, bound_on, steps_on, with_value}
 use Rattle.eval_step.specs.Steps.{operated, argued}
-use Rattle.eval_step.proofs.Outs.{then_go-assoc, then_go-same}
+use Rattle.eval_step.proofs.Sequencing.{then_go-assoc, then_go-same}
 
 -- ---- lists from a place on
 pub drop_some : {X : Type 0} (xs : List X) (number : ℕ) (x : X) → slice_get xs number ≡ Some x → drop number xs ≡ x ∷ drop (number + 1) xs

@@ -1,10 +1,9 @@
 -- What a machine is to evaluate, and how far it has come.
-use Rattle.std.specs.Prelude.{◌≡◌, ℕ, Bool, List, ◌++◌, refl}
+use Rattle.std.specs.Prelude.{◌≡◌, ℕ, Bool, List, ◌++◌, length, refl}
 use Rattle.std.specs.Coded.{Coded, code_by, coded×, coded_bool, coded_ℕ, coded_list}
 use Rattle.value_core.specs.contracts.value.Value as value
 use Rattle.core_syntax.specs.contracts.node_id.NodeId as node_id
 use Rattle.serial_model.specs.contracts.answer.Answer as answer
-use Rattle.eval_step.specs.contracts.walk.Walk as walk
 use Rattle.value_core.specs.declared.value.Value.{Value}
 use Rattle.core_syntax.specs.declared.node_id.NodeId.{NodeId}
 use Rattle.core_syntax.specs.Table.{Table}
@@ -12,10 +11,10 @@ use Rattle.serial_model.specs.declared.answer.Answer.{Answer}
 use Rattle.serial_model.specs.declared.halt.Halt.{Halt}
 use Rattle.serial_model.specs.declared.halt.Halt.TheVariants as halt
 use Rattle.serial_model.specs.Eval.{end_of, next}
-use Rattle.eval_step.specs.declared.control.Control.{Control}
-use Rattle.eval_step.specs.declared.control.Control.TheVariants as control
-use Rattle.eval_step.specs.declared.walk.Walk.{Walk}
-use Rattle.eval_step.specs.Walk.{Goes, FailedAt, IsThere, outcome_from}
+use Rattle.eval_frames.specs.Control.{Control}
+use Rattle.eval_frames.specs.Control as control
+use Rattle.eval_step.specs.Standing.{Standing, standing_code}
+use Rattle.eval_step.specs.Walk.{Goes, FailedAt, IsIn, onto}
 
 -- the body, its frame, whether it is inside a transaction, its fuel, the answers so far, and where it stands after them
 pub record Evaluation : Type 0 where
@@ -24,13 +23,13 @@ pub record Evaluation : Type 0 where
   pub inside : Bool
   pub fuel : ℕ
   pub answers : List Answer
-  pub inner : Walk
+  pub inner : Standing
 
 -- an evaluation is stored as its parts
 abbrev pub evaluation_code : Coded Evaluation
 evaluation_code =
-    code_by (NodeId × (List Value × (Bool × (ℕ × (List Answer × Walk)))))
-    (coded× (node_id.the_row).coded (coded× (coded_list (value.the_row).coded) (coded× coded_bool (coded× coded_ℕ (coded× (coded_list (answer.the_row).coded) (walk.the_row).coded)))))
+    code_by (NodeId × (List Value × (Bool × (ℕ × (List Answer × Standing)))))
+    (coded× (node_id.the_row).coded (coded× (coded_list (value.the_row).coded) (coded× coded_bool (coded× coded_ℕ (coded× (coded_list (answer.the_row).coded) standing_code)))))
     (λ e. (e.body, (e.values, (e.inside, (e.fuel, (e.answers, e.inner))))))
     (λ p. record { body = p.0; values = p.1.0; inside = p.1.1.0; fuel = p.1.1.1.0; answers = p.1.1.1.1.0; inner = p.1.1.1.1.1 })
     (λ _. refl)
@@ -39,8 +38,8 @@ evaluation_code =
 -- all nodes that it names are in the table.
 pub record IsOf (table : Table) (m : Evaluation) : Type 0 where
   pub stands : Goes m.inner.control → (answers : List Answer) →
-      next table m.body m.values m.inside (m.answers ++ answers) m.fuel ≡ end_of (outcome_from table m.inside m.inner answers)
-  pub there : Goes m.inner.control → IsThere table m.inner
+      next table m.body m.values m.inside (m.answers ++ answers) m.fuel ≡ end_of (onto table m.inside m.inner.control m.inner.context.frame m.inner.context.stack m.inner.left answers)
+  pub there : Goes m.inner.control → IsIn (length table.nodes) m.inner.context.stack m.inner.control
 
 abbrev pub IsAsk : Halt → Type 0
 IsAsk (halt.Ask request at) = Unit {0}

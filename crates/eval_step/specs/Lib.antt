@@ -1,9 +1,7 @@
-pub mod Answered
 pub mod Evaluation
-pub mod Finish
-pub mod Frame
-pub mod Known
+pub mod Parts
 pub mod Resume
+pub mod Standing
 pub mod Steps
 pub mod Unread
 pub mod Walk

@@ -14,8 +14,8 @@ use Rattle.serial_model.specs.Eval.{Out, Got, Next, Evals, then_go, each, in_tur
 use Rattle.serial_model.specs.Operation.{arguments}
 use Rattle.eval_step.specs.declared.item.Item.{Item}
 use Rattle.eval_step.specs.declared.item.Item.TheVariants as item
-use Rattle.eval_step.specs.Finish.{finish}
-use Rattle.eval_step.specs.Frame.{shorter}
+use Rattle.eval_frames.specs.Finish.{finish}
+use Rattle.eval_frames.specs.Frame.{shorter}
 
 -- whether the frame is looked at again
 abbrev pub needs_frame : List Item → Bool

@@ -1,5 +1,5 @@
 -- What each step in a context comes to, in and outside a transaction.
-use Rattle.std.specs.Prelude.{◌≡◌, ℕ, ◌+◌, ◌*◌, ◌<◌, Bool, List, ◌∷◌, length, Option, None, Some}
+use Rattle.std.specs.Prelude.{◌≡◌, ℕ, ◌+◌, ◌*◌, ◌<◌, Bool, List, [], ◌∷◌, ◌++◌, length, Option, None, Some}
 use Rattle.std.specs.List.{slice_get}
 use Rattle.value_core.specs.declared.value.Value.{Value}
 use Rattle.value_core.specs.declared.value.Value.TheVariants as value
@@ -9,9 +9,9 @@ use Rattle.core_syntax.specs.Table.{Table, node_at}
 use Rattle.serial_model.specs.declared.answer.Answer.{Answer}
 use Rattle.serial_model.specs.Eval.{Out, Got, Evals, come, by_arguments, level, begin_at}
 use Rattle.eval_step.specs.declared.context.Context.{Context}
-use Rattle.eval_step.specs.declared.control.Control.{Control}
+use Rattle.eval_frames.specs.Control.{Control}
 use Rattle.eval_step.specs.declared.item.Item.{Item}
-use Rattle.eval_step.specs.Finish.{finish}
+use Rattle.eval_frames.specs.Finish.{finish}
 use Rattle.eval_step.specs.Resume.{run, resume, arguments_on, parts_on, bound_on, steps_on}
 use Rattle.eval_step.specs.declared.walk.Walk.{Walk}
 use Rattle.eval_step.specs.Walk.{after, onto, weight, IsIn, ComesTo}
@@ -35,6 +35,10 @@ entered table inside below frame (Some row) fuel answers = level table inside be
 abbrev pub one_more : Context → ℕ
 one_more old = 2 * length old.stack + 3
 
+-- so much of it is allowed behind a step that may lead to the arguments of a node
+abbrev pub before_arguments : Context → ℕ
+before_arguments old = 2 * length old.stack + 4
+
 -- the body begins
 abbrev pub Begins : Table → NodeId → Context → Context → Control → Type 0
 Begins table body old new stands =
@@ -43,12 +47,12 @@ Begins table body old new stands =
 -- a node is entered, in or outside a transaction
 abbrev pub Enters : Table → Bool → NodeId → Context → Context → Control → Type 0
 Enters table inside id old new stands =
-    ComesTo table inside (λ fuel answers. after table inside old (entered table inside (run table inside) old.frame (slice_get table.nodes id.index) fuel answers)) (one_more old) new stands
+    ComesTo table inside (λ fuel answers. after table inside old (entered table inside (run table inside) old.frame (slice_get table.nodes id.index) fuel answers)) (before_arguments old) new stands
 
 -- a node that has arguments and an operation is entered
 abbrev pub EntersArguments : Table → NodeId → Context → Context → Control → Type 0
 EntersArguments table id old new stands = (inside : Bool) →
-    ComesTo table inside (λ fuel answers. after table inside old (argued table (run table inside) old.frame (slice_get table.nodes id.index) fuel answers)) (one_more old) new stands
+    ComesTo table inside (λ fuel answers. after table inside old (argued table (run table inside) old.frame (slice_get table.nodes id.index) fuel answers)) (before_arguments old) new stands
 
 -- the arguments of a node from that number on, and then its operation with these values before theirs
 abbrev pub TakesArgument : Table → NodeId → List Value → ℕ → Context → Context → Control → Type 0
@@ -83,15 +87,23 @@ TakesStep table id number old new stands = (inside : Bool) →
 -- what an item and the stack below it do with a value
 abbrev pub Resumes : Table → Item → Value → Context → Context → Control → Type 0
 Resumes table first v old new stands = (inside : Bool) →
-    ComesTo table inside (resume table inside old.frame (first ∷ old.stack) v) (one_more old) new stands
+    ComesTo table inside (resume table inside old.frame (first ∷ old.stack) v) (before_arguments old) new stands
 
 -- what the stack does with a value. It is no longer behind that
 abbrev pub Delivers : Table → Value → Context → Context → Control → Type 0
 Delivers table v old new stands = (inside : Bool) →
-    ComesTo table inside (resume table inside old.frame old.stack v) (2 * length old.stack + 1) new stands
+    ComesTo table inside (resume table inside old.frame old.stack v) (2 * length old.stack + 2) new stands
 
 -- Entering a node costs one unit of fuel; with none left the evaluation is spent.
 pub record EntersWithFuel (table : Table) (inside : Bool) (id : NodeId) (old new : Walk) (stands : Control) : Type 0 where
   pub same : (answers : List Answer) → after table inside old.context (run table inside old.context.frame id old.left answers) ≡ onto table inside stands new.context.frame new.context.stack new.left answers
   pub there : IsIn (length table.nodes) new.context.stack stands
   pub small : 4 * new.left + 2 * length new.context.stack + weight stands < 4 * old.left + 2 * length old.context.stack + 1
+
+-- The node has a value that shows at once, which is that of an argument, and costs one unit of fuel.
+pub record TakesLeaf (table : Table) (id : NodeId) (old new : Walk) : Type 0 where
+  pub leaf : Value
+  pub ran : (inside : Bool) (answers : List Answer) → run table inside old.context.frame id old.left answers ≡ Got leaf new.left answers
+  pub values : new.registers.values ≡ old.registers.values ++ leaf ∷ []
+  pub context : new.context ≡ old.context
+  pub fewer : new.left < old.left

@@ -1,5 +1,5 @@
 -- Places of a frame that are not read any more.
-use Rattle.std.specs.Prelude.{◌≡◌, ℕ, zero, suc, Bool, true, false, ◌==◌, List, [], ◌∷◌, All, drop}
+use Rattle.std.specs.Prelude.{◌≡◌, ℕ, Bool, true, false, ◌==◌, List, ◌∷◌, All, drop}
 use Rattle.std.specs.List.{list_any}
 use Rattle.value_core.specs.declared.value.Value.{Value}
 use Rattle.core_syntax.specs.declared.node.Node.{Node}
@@ -8,17 +8,10 @@ use Rattle.core_syntax.specs.declared.node_id.NodeId.{NodeId}
 use Rattle.core_syntax.specs.Table.{Table}
 use Rattle.serial_model.specs.declared.answer.Answer.{Answer}
 use Rattle.serial_model.specs.Operation.{arguments}
+use Rattle.eval_frames.specs.Agreeing.{AgreeBut}
 use Rattle.eval_step.specs.declared.context.Context.{Context}
 use Rattle.eval_step.specs.declared.item.Item.{Item}
 use Rattle.eval_step.specs.Resume.{run, resume}
-
--- the two frames differ at most at the place
-abbrev pub AgreeBut : ℕ → List Value → List Value → Type 0
-AgreeBut place [] [] = Unit {0}
-AgreeBut place [] (w ∷ other) = ⊥
-AgreeBut place (v ∷ frame) [] = ⊥
-AgreeBut zero (v ∷ frame) (w ∷ other) = frame ≡ other
-AgreeBut (suc place) (v ∷ frame) (w ∷ other) = (v ≡ w) × AgreeBut place frame other
 
 -- whether the place is one of these
 abbrev pub is_one_of : ℕ → List ℕ → Bool

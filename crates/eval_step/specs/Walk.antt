@@ -8,12 +8,13 @@ use Rattle.serial_model.specs.declared.halt.Halt.{Halt}
 use Rattle.serial_model.specs.declared.halt.Halt.TheVariants as halt
 use Rattle.serial_model.specs.Eval.{Out, Got, Stop, Next, then_go, ask, begin_at}
 use Rattle.eval_step.specs.declared.context.Context.{Context}
-use Rattle.eval_step.specs.declared.control.Control.{Control}
-use Rattle.eval_step.specs.declared.control.Control.TheVariants as control
+use Rattle.eval_frames.specs.Control.{Control}
+use Rattle.eval_frames.specs.Control as control
+use Rattle.eval_frames.specs.Control.{standing}
 use Rattle.eval_step.specs.declared.item.Item.{Item}
 use Rattle.eval_step.specs.declared.item.Item.TheVariants as item
 use Rattle.eval_step.specs.declared.walk.Walk.{Walk}
-use Rattle.eval_step.specs.Resume.{run, resume}
+use Rattle.eval_step.specs.Resume.{run, resume, arguments_on}
 
 -- a request goes on with the next answer
 abbrev pub halted : Next → Halt → ℕ → List Answer → Out
@@ -27,6 +28,8 @@ onto table inside (control.Begin body) frame stack fuel answers =
     begin_at (run table inside) body frame (slice_get table.nodes body.index) fuel answers
 onto table inside (control.Enter id) frame stack fuel answers = then_go (run table inside frame id fuel answers) (resume table inside frame stack)
 onto table inside (control.Deliver v) frame stack fuel answers = resume table inside frame stack v fuel answers
+onto table inside (control.Arguments id values number) frame stack fuel answers =
+    then_go (arguments_on table (run table inside) frame (slice_get table.nodes id.index) values number fuel answers) (resume table inside frame stack)
 onto table inside (control.Halted stop) frame stack fuel answers = halted (resume table inside frame stack) stop fuel answers
 onto table inside control.Failed frame stack fuel answers = Stop halt.Spent
 
@@ -44,6 +47,7 @@ ItemIn n (item.Steps id number binds) = id.index < n
 abbrev pub ControlIn : ℕ → List Item → Control → Type 0
 ControlIn n stack (control.Begin body) = (body.index < n) × (stack ≡ [])
 ControlIn n stack (control.Enter id) = id.index < n
+ControlIn n stack (control.Arguments id values number) = id.index < n
 ControlIn n stack _ = Unit {0}
 
 -- all nodes that are named are in the table
@@ -69,9 +73,10 @@ goes_on _ = true
 
 -- how much a step from there is worth, where a unit of fuel is worth four and an item of the stack two
 abbrev pub weight : Control → ℕ
-weight (control.Begin body) = 4
+weight (control.Begin body) = 5
 weight (control.Enter id) = 1
-weight (control.Deliver v) = 2
+weight (control.Deliver v) = 3
+weight (control.Arguments id values number) = 4
 weight _ = 0
 
 -- what is done with the value of an evaluation in a context
@@ -88,15 +93,19 @@ pub record ComesTo (table : Table) (inside : Bool) (meant : ℕ → List Answer 
 abbrev pub ItemsIn : Table → Context → Type 0
 ItemsIn table context = All (ItemIn (length table.nodes)) context.stack
 
+-- where the walk stands
+abbrev pub control_of : Walk → Control
+control_of w = standing w.at w.registers
+
 -- what the body comes to from where the walk stands
 abbrev pub outcome_from : Table → Bool → Walk → List Answer → Out
-outcome_from table inside w answers = onto table inside w.control w.context.frame w.context.stack w.left answers
+outcome_from table inside w answers = onto table inside (control_of w) w.context.frame w.context.stack w.left answers
 
 abbrev pub IsThere : Table → Walk → Type 0
-IsThere table w = IsIn (length table.nodes) w.context.stack w.control
+IsThere table w = IsIn (length table.nodes) w.context.stack (control_of w)
 
 abbrev pub work : Walk → ℕ
-work w = 4 * w.left + 2 * length w.context.stack + weight w.control
+work w = 4 * w.left + 2 * length w.context.stack + weight (control_of w)
 
 -- the body comes to the same from both, all nodes that are named are in the table, and less is left to do
 pub record Moves (table : Table) (inside : Bool) (old new : Walk) : Type 0 where
@@ -104,9 +113,19 @@ pub record Moves (table : Table) (inside : Bool) (old new : Walk) : Type 0 where
   pub there : IsThere table new
   pub smaller : work new < work old
 
+-- so it does in and outside a transaction
+abbrev pub MovesAnyhow : Table → Walk → Walk → Type 0
+MovesAnyhow table old new = (inside : Bool) → Moves table inside old new
+
+-- the body comes to the same from both, and no more is left to do
+pub record Keeps (table : Table) (old new : Walk) : Type 0 where
+  pub same : (inside : Bool) (answers : List Answer) → outcome_from table inside old answers ≡ outcome_from table inside new answers
+  pub there : IsThere table new
+  pub most : work new ≤ work old
+
 -- the body comes to the same from both, and the newer one stops there
 pub record StopsAt (table : Table) (inside : Bool) (old new : Walk) (stop : Halt) : Type 0 where
-  pub at : new.control ≡ control.Halted stop
-  pub goes : Goes old.control
+  pub at : control_of new ≡ control.Halted stop
+  pub goes : Goes (control_of old)
   pub same : (answers : List Answer) → outcome_from table inside old answers ≡ outcome_from table inside new answers
   pub there : IsThere table new

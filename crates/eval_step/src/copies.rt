@@ -1,11 +1,11 @@
 ghost use Rattle.std.specs.Prelude.{◌≡◌, [], ◌∷◌, ◌++◌, IsErr, IfOk, OnOk, OnErr};
-ghost use Rattle.eval_step.specs.Walk.{FailedAt};
+ghost use Rattle.eval_step.specs.Walk.{FailedAt, control_of};
 
 use crate::context::Context;
-use crate::control::Control;
 use crate::item::Item;
 use crate::walk::Walk;
 use answer_runs::Answers;
+use eval_frames::{At, Registers, Stop};
 use serial_model::Answer;
 use std::alloc::{AllocError, Global};
 use value_core::Copied;
@@ -13,10 +13,14 @@ use value_core::Copied;
 /// An equal walk. Of a failed one there is none.
 pub fn copy_walk(alloc: Global, walk: &Walk) -> Result<Walk, AllocError>
     ensures copied { IfOk result (λ copied. copied ≡ walk.now) }
-    ensures failed { FailedAt walk.now.control → IsErr result }
+    ensures failed { FailedAt (control_of walk.now) → IsErr result }
 {
+    if let At::Failed = walk.at {
+        return Err(AllocError);
+    }
     Ok(Walk {
-        control: copy_control(alloc, &walk.control)?,
+        at: walk.at,
+        registers: copy_registers(alloc, &walk.registers)?,
         context: copy_context(alloc, &walk.context)?,
         left: walk.left,
     })
@@ -31,17 +35,16 @@ fn copy_context(alloc: Global, context: &Context) -> Result<Context, AllocError>
     })
 }
 
-fn copy_control(alloc: Global, control: &Control) -> Result<Control, AllocError>
-    ensures copied { IfOk result (λ copied. copied ≡ control.now) }
-    ensures failed { FailedAt control.now → IsErr result }
+fn copy_registers(alloc: Global, registers: &Registers) -> Result<Registers, AllocError>
+    ensures { IfOk result (λ copied. copied ≡ registers.now) }
 {
-    match control {
-        Control::Begin(body) => Ok(Control::Begin(*body)),
-        Control::Enter(id) => Ok(Control::Enter(*id)),
-        Control::Deliver(value) => Ok(Control::Deliver(value.copy(alloc)?)),
-        Control::Halted(halt) => Ok(Control::Halted(halt.copy(alloc)?)),
-        Control::Failed => Err(AllocError),
-    }
+    Ok(Registers {
+        value: registers.value.copy(alloc)?,
+        values: registers.values.copy(alloc)?,
+        stop: Stop {
+            halt: registers.stop.halt.copy(alloc)?,
+        },
+    })
 }
 
 impl Copied for Item {

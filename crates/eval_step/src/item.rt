@@ -1,5 +1,5 @@
-use crate::frame::Frame;
 use core_syntax::NodeId;
+use eval_frames::Frame;
 
 /// What is still to be done with a value, in the current frame.
 #[derive(Drop)]

@@ -3,21 +3,15 @@
 //! position leaves nothing there.
 #![tactic(auto)]
 
-mod arguments;
 mod context;
-mod control;
 mod copies;
 mod entering;
-mod frame;
 mod item;
-mod known;
 mod machine;
-mod operation;
-mod outcome;
+mod parts;
 mod resuming;
 mod stack;
 mod unread;
-mod values;
 mod walk;
 
 pub use machine::Machine;

@@ -2,64 +2,56 @@ ghost use Rattle.std.specs.Prelude.{◌≡◌, ◌↔◌, ◌<◌, [], ◌∷◌
 ghost use Rattle.core_syntax.specs.Table.{Table};
 ghost use Rattle.serial_model.specs.Eval.{next};
 ghost use Rattle.eval_step.specs.Evaluation.{IsAsk, IsAsking, IsFailed, IsOf, IsSame, IsSameTask};
+ghost use Rattle.eval_step.specs.Parts.{evaluation_of};
 
 use crate::context::Context;
-use crate::control::Control;
-use crate::copies::{copy_walk, keep_answer};
-use crate::frame::Frame;
+use crate::copies::keep_answer;
+use crate::parts::{Parts, copy_parts, same_parts};
 use crate::stack::Stack;
 use crate::walk::Walk;
 use answer_runs::Answers;
 use core_syntax::{NodeId, Program};
+use eval_frames::{At, Frame, Registers};
 use serial_model::{Answer, Halt};
 use std::alloc::{AllocError, Global};
 use std::marker::Model;
 use value_core::Values;
-use value_core::lists::equal_values;
 
-/// An evaluation that goes on from request to request.
+/// An evaluation that goes on from request to request. It is a pointer, since machines are handed on often.
 pub struct Machine {
-    body: NodeId,
-    values: Values,
-    inside: bool,
-    fuel: u64,
-    answers: Answers,
-    inner: Walk,
+    parts: Box<Parts>,
 }
 
 impl Model for Machine {
     ghost use Rattle.eval_step.specs.Evaluation.{Evaluation, evaluation_code};
+    ghost use Rattle.eval_step.specs.Parts.{evaluation_of};
 
     ghost Value = { Evaluation };
 
     ghost coded = { evaluation_code };
 
-    ghost view = { λ m. record {
-      body = m.body;
-      values = m.values;
-      inside = m.inside;
-      fuel = m.fuel;
-      answers = m.answers;
-      inner = m.inner;
-    } };
+    ghost view = { λ m. evaluation_of m.parts.value };
 }
 
 /// By hand, so that a machine is dropped by a call: a derived drop is done part by part wherever a machine is dropped, and the borrow
 /// checker's part of the proof there has a case for each.
 impl Drop for Machine {
     fn drop(self) {
-        let Machine {
-            body: _,
-            values: _values,
-            inside: _,
-            fuel: _,
-            answers: _answers,
-            inner: _inner,
-        } = self;
+        let Machine { parts: _parts } = self;
     }
 }
 
 impl Machine {
+    // The machine of these parts.
+    fn of(alloc: Global, parts: Parts) -> Result<Self, AllocError>
+        ensures { IfOk result (λ machine. machine ≡ evaluation_of parts) }
+    {
+        match Box::new(alloc, parts) {
+            Ok(parts) => Ok(Machine { parts }),
+            Err(_refused) => Err(AllocError),
+        }
+    }
+
     /// A machine that is to evaluate the body in a frame of these values, in or outside a transaction, and enters at most
     /// so many nodes. It has no answers yet.
     pub fn start(
@@ -81,18 +73,23 @@ impl Machine {
             frame,
             stack: Stack::new(alloc),
         };
-        Ok(Machine {
-            body,
-            values,
-            inside: in_transaction,
-            fuel,
-            answers: Answers::new(alloc),
-            inner: Walk {
-                control: Control::Begin(body),
-                context,
-                left: fuel,
+        let machine = Machine::of(
+            alloc,
+            Parts {
+                body,
+                values,
+                inside: in_transaction,
+                fuel,
+                answers: Answers::new(alloc),
+                inner: Walk {
+                    at: At::Begin(body),
+                    registers: Registers::new(alloc),
+                    context,
+                    left: fuel,
+                },
             },
-        })
+        )?;
+        Ok(machine)
     }
 
     /// A machine that is to evaluate the same in the same frame, and has no answers yet. It fails for want of memory, and
@@ -102,15 +99,15 @@ impl Machine {
         ensures answers { IfOk result (λ machine. machine.answers ≡ []) }
         ensures stands { IfOk result (IsOf program.now) }
     {
-        if program.main().index < self.body.index {
+        if program.main().index < self.parts.body.index {
             return Err(AllocError);
         }
         Machine::start(
             alloc,
-            self.body,
-            self.values.copy()?,
-            self.inside,
-            self.fuel,
+            self.parts.body,
+            self.parts.values.copy()?,
+            self.parts.inside,
+            self.parts.fuel,
         )
     }
 
@@ -126,7 +123,8 @@ impl Machine {
         ensures failed { OnErr result (IsFailed self.new) }
         ensures stays_failed { IsFailed self.old → IsErr result }
     {
-        self.inner.run(alloc, program, self.inside)
+        let inside = self.parts.inside;
+        self.parts.inner.run(alloc, program, inside)
     }
 
     /// Gives the answer to the request at which the machine stands. For want of memory it has failed, and every later
@@ -139,13 +137,13 @@ impl Machine {
         ensures stands { (table : Table) → IsOf table self.old → IsOf table self.new }
         ensures failed { OnErr result (IsFailed self.new) }
     {
-        match keep_answer(alloc, &mut self.answers, &answer) {
+        match keep_answer(alloc, &mut self.parts.answers, &answer) {
             Ok(()) => {
-                self.inner.go_on(answer);
+                self.parts.inner.go_on(answer);
                 Ok(())
             }
             Err(error) => {
-                self.inner.fail();
+                self.parts.inner.fail();
                 Err(error)
             }
         }
@@ -156,14 +154,8 @@ impl Machine {
         ensures copied { IfOk result (λ machine. machine ≡ self.now) }
         ensures failed { IsFailed self.now → IsErr result }
     {
-        Ok(Machine {
-            body: self.body,
-            values: self.values.copy()?,
-            inside: self.inside,
-            fuel: self.fuel,
-            answers: self.answers.copy()?,
-            inner: copy_walk(alloc, &self.inner)?,
-        })
+        let machine = Machine::of(alloc, copy_parts(alloc, &self.parts)?)?;
+        Ok(machine)
     }
 
     /// Whether the two evaluate the same body in the same frame, in or outside a transaction, with the same fuel, and have
@@ -171,10 +163,6 @@ impl Machine {
     pub fn same(&self, other: &Machine) -> bool
         ensures { IsTrue result ↔ IsSame self.now other.now }
     {
-        self.body == other.body
-            && self.inside == other.inside
-            && self.fuel == other.fuel
-            && equal_values(&self.values, &other.values)
-            && self.answers.same(&other.answers)
+        same_parts(&self.parts, &other.parts)
     }
 }

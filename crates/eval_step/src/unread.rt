@@ -4,10 +4,10 @@ ghost use Rattle.eval_step.specs.Unread.{ItemSpares, SparesBehind, SparesFrom, i
 ghost use Rattle.eval_step.specs.declared.item.Item.TheVariants as item;
 ghost use Rattle.eval_step.specs.Walk.{ItemIn, ItemsIn};
 
-use crate::arguments::argument;
 use crate::context::Context;
 use crate::item::Item;
 use core_syntax::{Locals, Node, NodeId, Program};
+use eval_frames::argument;
 
 /// How many nodes are looked at, to find whether a place of the frame is read again.
 const LOOKED_AT: u32 = 24;

@@ -1,8 +1,8 @@
 use Rattle.std.proofs.Common.{sym, subst}
 use Rattle.eval_step.specs.declared.context.Context.{Context}
-use Rattle.eval_step.specs.declared.control.Control.TheVariants.{Enter}
+use Rattle.eval_frames.specs.Control.{Enter}
 use Rattle.eval_step.specs.Steps.{TakesBound}
-use Rattle.eval_step.proofs.Goings.{takes_next_bound, takes_body, takes_body_last}
+use Rattle.eval_step.proofs.EnteringSteps.{takes_next_bound, takes_body, takes_body_last}
 use Rattle.eval_step.proofs.context.Context.take_bound.Goals as goal
 use Rattle.eval_step.proofs.context.Context.take_bound.Goals.{then-needs_frame+in_ok-push-2, else-needs_frame}
 

@@ -1,8 +1,8 @@
 use Rattle.std.proofs.Common.{get_or, sym, subst}
 use Rattle.eval_step.specs.declared.context.Context.{Context}
-use Rattle.eval_step.specs.declared.control.Control.TheVariants.{Enter}
+use Rattle.eval_frames.specs.Control.{Enter}
 use Rattle.eval_step.specs.Steps.{TakesPart}
-use Rattle.eval_step.proofs.Goings.{takes_next_part, takes_last_part}
+use Rattle.eval_step.proofs.EnteringSteps.{takes_next_part, takes_last_part}
 use Rattle.eval_step.proofs.context.Context.take_part.Goals as goal
 use Rattle.eval_step.proofs.context.Context.take_part.Goals.{then-number-parts-2+in_ok-push, else-number-parts-2}
 

@@ -1,4 +1,4 @@
-use Rattle.eval_step.proofs.Goings.{takes_next_step}
+use Rattle.eval_step.proofs.EnteringSteps.{takes_next_step}
 use Rattle.eval_step.proofs.context.Context.take_step.Goals as goal
 
 pub returns : goal.returns

@@ -1,0 +1,4 @@
+pub mod Agreeing
+pub mod Crossing
+pub mod Marks
+pub mod Primitives

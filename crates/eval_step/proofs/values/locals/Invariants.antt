@@ -1,6 +1,0 @@
-use Rattle.std.proofs.Common.{◌≡◌, take}
-use Rattle.serial_model.specs.Operation.{hidden_values}
-use Rattle.eval_step.proofs.values.locals.Given as goal
-
-abbrev pub invariant-loop-place : goal.invariant-loop-place
-invariant-loop-place l = record { all : l.place-items ≡ l.places; done : l.values ≡ hidden_values l.frame (take l.place-index l.place-items) }
