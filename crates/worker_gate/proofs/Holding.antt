@@ -1,6 +1,6 @@
 -- What a hold leaves is later than what was entered.
-use Rattle.std.proofs.Common.{◌≡◌, ◌∙◌, List, [], append-nil, refl, sym, ap, subst}
-use Rattle.std.specs.Prelude.{Some, Result, Ok, Err, IfOk, OnErr}
+use Rattle.std.proofs.Common.{◌≡◌, ◌∙◌, [], append-nil, sym, ap, subst}
+use Rattle.std.specs.Prelude.{Result, Ok, Err, IfOk, OnErr}
 use Rattle.core_syntax.specs.Table.{Table}
 use Rattle.lent_pieces.specs.Back.{IsBack}
 use Rattle.lent_pieces.specs.Claims.{IsAbandoned, IsClaimOn}
@@ -19,6 +19,7 @@ use Rattle.shared_world.specs.Shared.{Shared}
 use Rattle.value_core.specs.declared.ticket.Ticket.{Ticket}
 use Rattle.value_core.specs.Named.{Name}
 use Rattle.world_claim.specs.Lent.{Lent}
+use Rattle.world_lock.proofs.Begun.{prefix_trans}
 use Rattle.world_lock.specs.Later.{IsLater}
 use Rattle.world_steps.specs.Kept.{IsSameBut}
 
@@ -62,3 +63,10 @@ claims-later old new (Err why) is same = same-later old new same
 pub gives-later : (old new : Shared) (r : Returned) (answer : Result Given StepNo) → IfOk answer (λ given. Gave old r given new) → OnErr answer (IsBack old r new) → IsLater setup_seen history_seen old new
 gives-later old new r (Ok given) is back = gave-lock-later old new r given is
 gives-later old new r (Err why) is back = back-later old new r back
+
+-- and what is left then is later than what was at first
+pub later-then : (first mid last : Shared) → IsLater setup_seen history_seen first mid → IsLater setup_seen history_seen mid last → IsLater setup_seen history_seen first last
+later-then first mid last a b = record { same_setup = b.same_setup ∙ a.same_setup; grown = prefix_trans first.history mid.history last.history a.grown b.grown }
+
+pub later-program : (old new : Shared) → IsLater setup_seen history_seen old new → new.setup.program ≡ old.setup.program
+later-program old new is = ap (λ (p : Table × Budget). p.0) is.same_setup

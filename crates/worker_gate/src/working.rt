@@ -43,10 +43,14 @@ pub fn work<R: Wait, G: Gate, B: Between>(
     ensures used { IsPrefix (B.used between.new) result.seat.seen }
 {
     let mut mine = seat;
+    let mut claimed = None;
     let mut turn = 0u64;
     let mut paused = 0u32;
     for _ in rt.forever() {
-        let Round { seat, went } = do_round(rt, alloc, lock, mine, program, worker, turn, gate);
+        let Round { seat, went, next } = do_round(
+            rt, alloc, lock, mine, program, claimed, worker, turn, gate,
+        );
+        claimed = next;
         paused = pause(went, paused);
         match went {
             Went::Settled => mine = between.after(rt, alloc, lock, seat),

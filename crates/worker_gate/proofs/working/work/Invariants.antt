@@ -13,4 +13,5 @@ invariant-loop g l = record {
   under : g.B.Between.under l.between ≡ g.B.Between.under l.fn.between;
   setup : IfSome (g.B.Between.under l.between) (λ s. l.lock.setup ≡ s);
   used : IsPrefix (g.B.Between.used l.between) l.mine.seen;
+  claimed : IfSome l.claimed (λ claim. claim.program ≡ l.lock.setup.0);
 }
