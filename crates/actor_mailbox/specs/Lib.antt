@@ -1,2 +1,3 @@
+pub mod BySender
 pub mod Messages
 pub mod Unsettled

@@ -13,6 +13,8 @@ pub struct Message {
 }
 
 impl Message {
+    ghost use Rattle.std.specs.Ordering.{is_gt};
+    ghost use Rattle.value_core.specs.Name.{after_cmp};
     ghost use Rattle.actor_mailbox.specs.Messages.{depends_on, is_from, settle_one};
     ghost use Rattle.actor_mailbox.specs.Unsettled.{is_unsettled};
 
@@ -21,6 +23,13 @@ impl Message {
         ensures { result ≡ is_from sender.now self.now }
     {
         *sender == self.sender
+    }
+
+    /// Whether its sender comes after that one in after-order.
+    pub(crate) fn comes_after(&self, sender: &Name) -> bool
+        ensures { result ≡ is_gt (after_cmp self.now.sender sender.now) }
+    {
+        self.sender.cmp_after(sender).is_gt()
     }
 
     /// Whether it depends on that name.

@@ -9,6 +9,7 @@ use Rattle.value_core.specs.Roomy.{Roomy}
 use Rattle.value_core.proofs.NamedLaws.{named-here, named-other, rises-with_named, same_or_not}
 use Rattle.value_core.proofs.NameMaps.{found_named, rises_of, written_is_put}
 use Rattle.actor_mailbox.specs.declared.message.Message.{Message}
+use Rattle.actor_mailbox.specs.BySender.{IsBySender}
 use Rattle.actor_mailbox.specs.Messages.{depends_on, settle_first, without}
 use Rattle.std.specs.List.{list_any}
 use Rattle.actor_mails.specs.Mails.{held, items_in, mail_at, room_at, room_in, Boxes, IsMailed, KeepsRoom, KeepsRoomBut, SameMailBut}
@@ -126,3 +127,10 @@ module _ (to : Name) (before after : Roomy Message) (old new : Boxes) (back : Is
     here = mail_here to after old new back.put back.rises ∙ items ∙ ap (without test) (sym mail_before);
     others = mail_others to after old new back.put back.rises;
   }
+
+  -- the messages of the box stand by sender
+  pub sorted : IsBySender before.items after.items → IsBySender (mail_at (held old) to) (mail_at (held new) to)
+  sorted by = subst (λ (mail : List Message). IsBySender mail (mail_at (held new) to)) (sym mail_before) (subst (IsBySender before.items) (sym (mail_here to after old new back.put back.rises)) by)
+
+  pub others_kept : SameMailBut to (held old) (held new)
+  others_kept = mail_others to after old new back.put back.rises

@@ -19,11 +19,11 @@ abbrev pub none_wait : List (Roomy Message) → Bool
 none_wait [] = true
 none_wait (box ∷ boxes) = none_waits box.items && none_wait boxes
 
-empty : (items : List Message) → none_waits items ≡ true → items ≡ []
+pub empty : (items : List Message) → none_waits items ≡ true → items ≡ []
 empty [] is = refl
 empty (first ∷ others) is = cc
 
-vacant : (items : List Message) → items ≡ [] → none_waits items ≡ true
+pub vacant : (items : List Message) → items ≡ [] → none_waits items ≡ true
 vacant [] is = refl
 vacant (first ∷ others) is = cc
 

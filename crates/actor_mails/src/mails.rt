@@ -1,18 +1,22 @@
-ghost use Rattle.std.specs.Prelude.{◌≡◌, ◌↔◌, ◌+◌, ◌<◌, ◌≤◌, [], ◌∷◌, ◌++◌, length, IsOk, IsTrue, MatchOption, None, OnErr, OnOk, Some, slice_get, true};
+ghost use Rattle.std.specs.Prelude.{◌≡◌, ◌↔◌, ◌+◌, ◌<◌, ◌≤◌, [], ◌∷◌, ◌++◌, length, IfNone, IfSome, IsOk, IsTrue, MatchOption, None, OnErr, OnOk, Some, slice_get, true};
 ghost use Rattle.std.specs.List.{list_any};
+ghost use Rattle.std.specs.Option.{option_copied};
+ghost use Rattle.std.specs.Range.Bound.{bound_map};
+ghost use Rattle.actor_mailbox.specs.BySender.{IsBySender};
 ghost use Rattle.actor_mailbox.specs.Messages.{depends_on, settle_first, without};
 ghost use Rattle.actor_mailbox.specs.Unsettled.{unsettled_of};
 ghost use Rattle.value_core.specs.Named.{named, same_name, Name as Called, Rises};
 ghost use Rattle.actor_mails.specs.Mails.{held, mail_at, room_at, IsMailed, KeepsRoom, KeepsRoomBut, NoMail, SameMailBut};
+ghost use Rattle.actor_mails.specs.Nexts.{after_bound, IsAfter, IsNextWithMail};
 
 use actor_mailbox::{Mailbox, Message};
 use std::alloc::{AllocError, Global};
-use std::collections::BTreeMap;
+use std::collections::{BTreeMap, Bound};
 use std::marker::Model;
 use value_core::{Name, name_map};
 
-/// The mail of each actor, by its name. Contracts see the messages that wait for an actor, in order of arrival, and for
-/// how many more there is room.
+/// The mail of each actor, by its name. Contracts see the messages that wait for an actor, in order of arrival until they
+/// are sorted, and for how many more there is room.
 #[derive(Drop)]
 pub struct Mails {
     boxes: BTreeMap<Name, Mailbox>,
@@ -115,6 +119,15 @@ impl Mails {
         are_empty(&self.boxes)
     }
 
+    /// The first actor that comes after this one in after-order, or of all where none is given, for which a message waits.
+    /// None exactly where there is none. It takes no memory.
+    pub fn next_with_mail(&self, after: Option<&Name>) -> Option<&Name>
+        ensures some { IfSome (option_copied result) (IsNextWithMail (held self.now) (option_copied after.entry)) }
+        ensures none { IfNone (option_copied result) ((other : Called) → IsAfter (option_copied after.entry) other → mail_at (held self.now) other ≡ []) }
+    {
+        next_with_mail(&self.boxes, after)
+    }
+
     /// Takes the message that has waited longest for that actor, and none exactly where none waits. The mail of the others
     /// stays, and no actor has less room. It takes no memory.
     pub fn take(&mut self, actor: &Name) -> Option<Message>
@@ -122,6 +135,17 @@ impl Mails {
         ensures room { KeepsRoom self.old self.new }
     {
         take(&mut self.boxes, actor)
+    }
+
+    /// Puts the messages that wait for that actor in the after-order of their senders; those of one sender stay in their
+    /// order. The mail of the others stays, and no actor has less room. It takes no memory, and touches a few words where
+    /// the messages stand so already.
+    pub fn sort(&mut self, actor: &Name)
+        ensures mail { IsBySender (mail_at (held self.old) actor.now) (mail_at (held self.new) actor.now) }
+        ensures others { SameMailBut actor.now (held self.old) (held self.new) }
+        ensures room { KeepsRoom self.old self.new }
+    {
+        sort(&mut self.boxes, actor);
     }
 
     /// The boxes by name; the mail is given up for them.
@@ -299,6 +323,40 @@ fn are_empty(boxes: &BTreeMap<Name, Mailbox>) -> bool
         }
     }
     true
+}
+
+/// The first actor after this one, or of all where none is given, whose box has a message.
+fn next_with_mail<'a>(boxes: &'a BTreeMap<Name, Mailbox>, after: Option<&Name>) -> Option<&'a Name>
+    ensures some { IfSome (option_copied result) (IsNextWithMail (held boxes.now.entries) (option_copied after.entry)) }
+    ensures none { IfNone (option_copied result) ((other : Called) → IsAfter (option_copied after.entry) other → mail_at (held boxes.now.entries) other ≡ []) }
+{
+    for (next, mailbox) in boxes.range((start_after(after), Bound::Unbounded)) {
+        if mailbox.front().is_some() {
+            return Some(next);
+        }
+    }
+    None
+}
+
+/// From where on the names come after this one.
+fn start_after(after: Option<&Name>) -> Bound<&Name>
+    ensures { bound_map (λ q. q.now) result ≡ after_bound (option_copied after.entry) }
+{
+    match after {
+        Some(actor) => Bound::Excluded(actor),
+        None => Bound::Unbounded,
+    }
+}
+
+fn sort(boxes: &mut BTreeMap<Name, Mailbox>, actor: &Name)
+    ensures mail { IsBySender (mail_at (held boxes.old.entries) actor.now) (mail_at (held boxes.new.entries) actor.now) }
+    ensures others { SameMailBut actor.now (held boxes.old.entries) (held boxes.new.entries) }
+    ensures room { KeepsRoom boxes.old.entries boxes.new.entries }
+    ensures rises { Rises boxes.old.entries → Rises boxes.new.entries }
+{
+    if let Some(mailbox) = boxes.get_mut(actor) {
+        mailbox.sort();
+    }
 }
 
 fn take(boxes: &mut BTreeMap<Name, Mailbox>, actor: &Name) -> Option<Message>

@@ -115,3 +115,26 @@ fn a_message_is_put_before_the_others(rt: HostRuntime) -> Result<(), Fail> {
     assert!(rt; holds(&mut mailbox, &[(6, true), (2, true), (5, false)]));
     Ok(())
 }
+
+#[test]
+fn messages_are_put_in_the_order_of_their_senders(rt: HostRuntime) -> Result<(), Fail> {
+    let mut mailbox = five_messages(rt.alloc())?;
+    mailbox.sort();
+    mailbox.reserve(1)?;
+    assert!(rt; mailbox.put(message(rt.alloc(), 0, 6, None)?).is_ok());
+    mailbox.sort();
+    assert!(rt;
+        holds(
+            &mut mailbox,
+            &[
+                (1, false),
+                (4, false),
+                (6, true),
+                (2, true),
+                (3, false),
+                (5, false)
+            ],
+        )
+    );
+    Ok(())
+}

@@ -103,3 +103,26 @@ fn what_is_put_where_room_was_made_is_there(rt: HostRuntime) -> Result<(), Fail>
     );
     Ok(())
 }
+
+#[test]
+fn the_next_actor_is_one_that_has_mail(rt: HostRuntime) -> Result<(), Fail> {
+    let mut mails = mail_of_two(rt.alloc())?;
+    let (zero, one) = (name(rt.alloc(), 0)?, name(rt.alloc(), 1)?);
+    assert!(rt; mails.next_with_mail(None) == Some(&zero));
+    assert!(rt; mails.next_with_mail(Some(&zero)) == Some(&one));
+    assert!(rt; mails.next_with_mail(Some(&one)).is_none());
+    assert!(rt; has_mail(rt.alloc(), &mut mails, 0, &[1, 3])?);
+    assert!(rt; mails.next_with_mail(None) == Some(&one));
+    Ok(())
+}
+
+#[test]
+fn the_mail_of_an_actor_is_sorted(rt: HostRuntime) -> Result<(), Fail> {
+    let mut mails = mail_of_two(rt.alloc())?;
+    let actor = name(rt.alloc(), 0)?;
+    mails.push(rt.alloc(), &actor, message(rt.alloc(), 5, 4, None)?)?;
+    mails.sort(&actor);
+    assert!(rt; has_mail(rt.alloc(), &mut mails, 0, &[4, 1, 3])?);
+    assert!(rt; has_mail(rt.alloc(), &mut mails, 1, &[2])?);
+    Ok(())
+}

@@ -1,8 +1,10 @@
 use Rattle.std.proofs.Common.{◌≡◌, [], ◌∷◌, ◌++◌, ◌∙◌, Some, sym, ap, subst, get_or, take, drop, suc, arith}
 use Rattle.std.specs.Prelude.{Option, MatchOption, OnSome}
 use Rattle.actor_mailbox.specs.declared.message.Message.{Message}
+use Rattle.actor_mailbox.specs.BySender.{AreSortedTo}
 use Rattle.actor_mailbox.specs.Messages.{from, is_from, without_first}
 use Rattle.actor_mailbox.proofs.FirstOf.{IsFirst, filtered_first, is_first, nobodys, none_passes, nothing_filtered, nothing_removed, removed_first}
+use Rattle.actor_mailbox.proofs.Rising.{sorted_left}
 use Rattle.actor_mailbox.proofs.mailbox.Mailbox.take_of.Goals as goal
 
 -- the message at the place is the sender's first
@@ -13,14 +15,24 @@ first c = is_first (is_from c.args.sender.now) c.self.inside.messages.items c.in
 removed : (c : goal.After-remove) → c.remove.result ≡ Some (get_or c.self.inside.messages.items c.in-Some.place nobodys)
 removed c = c.remove.ensures.succeeds nobodys (let long = c.self.inside.messages.ok in let lt = (first c).within in omega arith)
 
-pub returns-in-Some-clause-items : goal.returns-in-Some-clause-items
-returns-in-Some-clause-items c =
+-- and the others are left
+left : (c : goal.After-remove) → c.remove.new.self.items ≡ without_first (is_from c.args.sender.now) c.self.inside.messages.items
+left c =
     let ms = c.self.inside.messages.items in
     let place = c.in-Some.place in
     let rest = take place ms ++ drop (suc place) ms in
     subst (λ (r : Option Message). OnSome r (c.remove.new.self.items ≡ rest)) (removed c) c.remove.ensures.items
     ∙ removed_first (is_from c.args.sender.now) ms place nobodys (first c)
-    ∙ ap (λ mail. without_first (is_from c.args.sender.now) mail.items) c.self.view_is
+
+pub invariant_of-self : goal.invariant_of-self
+invariant_of-self c =
+    let ms = c.self.inside.messages.items in
+    let test = is_from c.args.sender.now in
+    subst (AreSortedTo c.saturating_sub-self-inside.result) (sym (left c))
+    (subst (λ n. AreSortedTo n (without_first test ms)) (sym c.saturating_sub-self-inside.ensures) (sorted_left test c.self.inside.sorted ms c.self.invariant))
+
+pub returns-in-Some-clause-items : goal.returns-in-Some-clause-items
+returns-in-Some-clause-items c = left c ∙ ap (λ mail. without_first (is_from c.args.sender.now) mail.items) c.self.view_is
 
 pub returns-in-Some-clause-taken : goal.returns-in-Some-clause-taken
 returns-in-Some-clause-taken c =
