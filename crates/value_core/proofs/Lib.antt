@@ -8,6 +8,7 @@ pub mod NameMaps
 pub mod NameMarks
 pub mod Names
 pub mod NameSets
+pub mod Padding
 pub mod PairLaws
 pub mod PlacedLaws
 pub mod primitives

@@ -1,6 +1,7 @@
 pub mod Bytes
 pub mod Depth
 pub mod FaultCodes
+pub mod Few
 pub mod formers
 pub mod Futures
 pub mod Key
@@ -9,6 +10,7 @@ pub mod Named
 pub mod NameOrder
 pub mod NameSet
 pub mod NameText
+pub mod Numbers
 pub mod Pairs
 pub mod Place
 pub mod Placed

@@ -6,12 +6,14 @@
 mod code;
 mod copied;
 mod dict;
+mod few;
 mod key;
 pub mod lists;
 mod name;
 pub mod name_map;
 mod name_order;
 pub mod name_set;
+mod numbers;
 mod op;
 mod op_fault;
 mod pair;

@@ -1,10 +1,11 @@
 ghost use Rattle.std.specs.Prelude.{◌≡◌, ◌<◌, ◌^◌, ℕ, List, [], ◌∷◌, ◌++◌, IfOk, IfErr, IfSome, IfNone, IsNone, OnOk, ◌≢◌, position, drop, ◌+◌, All, length, min, decimal};
 ghost use Rattle.value_core.specs.NameText.{is_dot, read_on, WritesNumber};
+ghost use Rattle.value_core.specs.Numbers.{numbers_in};
 ghost use Rattle.value_core.specs.Name.{after_cmp, name_text, IsTextOf};
 
 use crate::Text;
+use crate::numbers::Numbers;
 use itoa::Buffer;
-use smallvec::SmallVec;
 use std::alloc::{AllocError, Global};
 use std::cmp::Ordering;
 use std::marker::Model;
@@ -14,22 +15,23 @@ use thiserror::Error;
 /// `p` with a 0 more, and main is 0 alone. Up to four numbers take no memory of their own.
 #[derive(Debug)]
 pub struct Name {
-    parts: SmallVec<u32, 4>,
+    numbers: Numbers,
 }
 
 impl Model for Name {
     ghost use Rattle.std.specs.Prelude.{ℕ, List, length, ◌<◌};
+    ghost use Rattle.value_core.specs.Numbers.{numbers_in};
 
     ghost Value = { List ℕ };
 
-    ghost view = { λ n. n.parts.items };
+    ghost view = { λ n. numbers_in n.numbers };
 
-    ghost invariant = { λ n. 0 < length n.parts.items };
+    ghost invariant = { λ n. 0 < length (numbers_in n.numbers) };
 }
 
 impl Drop for Name {
     fn drop(self) {
-        let Name { parts: _parts } = self;
+        let Name { numbers: _numbers } = self;
     }
 }
 
@@ -38,9 +40,9 @@ impl Name {
     pub fn main(alloc: Global) -> Result<Self, AllocError>
         ensures { IfOk result (λ name. name ≡ 0 ∷ []) }
     {
-        Ok(Name {
-            parts: SmallVec::from_slice(alloc, &[0])?,
-        })
+        let mut numbers = Numbers::new();
+        numbers.push(alloc, 0)?;
+        Ok(Name { numbers })
     }
 
     /// The numbers of the name, from the root of the tree of names down.
@@ -48,7 +50,7 @@ impl Name {
         ensures value { result.now ≡ self.now }
         ensures not_empty { 0 < length result.now }
     {
-        self.parts.as_slice()
+        self.numbers.as_slice()
     }
 
     /// An equal name.
@@ -56,7 +58,7 @@ impl Name {
         ensures { IfOk result (λ name. name ≡ self.now) }
     {
         Ok(Name {
-            parts: SmallVec::from_slice(alloc, self.parts.as_slice())?,
+            numbers: self.numbers.copy(alloc)?,
         })
     }
 
@@ -64,24 +66,18 @@ impl Name {
     pub fn child(&self, alloc: Global, number: u32) -> Result<Self, AllocError>
         ensures { IfOk result (λ name. name ≡ self.now ++ number ∷ []) }
     {
-        let mut parts = SmallVec::from_slice(alloc, self.parts.as_slice())?;
-        parts.push(number)?;
-        Ok(Name { parts })
+        let mut numbers = self.numbers.copy(alloc)?;
+        numbers.push(alloc, number)?;
+        Ok(Name { numbers })
     }
 
     /// How this name stands to the other in after-order, where all that a unit or task made comes before it, and of two
     /// things that it made the earlier one first. It takes no memory.
+    #[inline]
     pub fn cmp_after(&self, other: &Name) -> Ordering
         ensures { result ≡ after_cmp self.now other.now }
     {
-        let (left, right) = (self.parts(), other.parts());
-        for index in 0..left.len().min(right.len()) {
-            let found = left[index].cmp(&right[index]);
-            if found.is_ne() {
-                return found;
-            }
-        }
-        right.len().cmp(&left.len())
+        self.numbers.cmp_after(&other.numbers)
     }
 
     /// The name that these bytes write: numbers in decimal without leading zeros, below 2 ^ 32, with dots between them.
@@ -90,14 +86,14 @@ impl Name {
         ensures name { IfOk result (λ name. IsTextOf name bytes.now) }
         ensures bad_name { result ≡ Err NameNo.BadName → (numbers : List ℕ) → ¬ IsTextOf numbers bytes.now }
     {
-        let mut parts = SmallVec::new(alloc);
+        let mut numbers = Numbers::new();
         let mut rest = bytes;
         while let Some(dot) = first_dot(rest) {
-            push_piece(&mut parts, &rest[..dot])?;
+            push_piece(&mut numbers, alloc, &rest[..dot])?;
             rest = after_dot(rest, dot);
         }
-        push_piece(&mut parts, rest)?;
-        Ok(Name { parts })
+        push_piece(&mut numbers, alloc, rest)?;
+        Ok(Name { numbers })
     }
 
     /// The name as it is written: its numbers in decimal, with dots between them.
@@ -124,6 +120,20 @@ pub enum NameNo {
     Memory,
 }
 
+/// How the one list of numbers stands to the other in after-order, place by place.
+#[inline]
+pub fn compare(left: &[u32], right: &[u32]) -> Ordering
+    ensures { result ≡ after_cmp left.now right.now }
+{
+    for index in 0..left.len().min(right.len()) {
+        let found = left[index].cmp(&right[index]);
+        if found.is_ne() {
+            return found;
+        }
+    }
+    right.len().cmp(&left.len())
+}
+
 fn push_number(text: &mut Text, number: u32) -> Result<(), AllocError>
     ensures { IfOk result (λ _. text.new ≡ text.old ++ decimal number) }
 {
@@ -147,12 +157,12 @@ fn after_dot(bytes: &[u8], dot: usize) -> &[u8]
 }
 
 // Appends the number that the piece writes.
-fn push_piece(parts: &mut SmallVec<u32, 4>, piece: &[u8]) -> Result<(), NameNo>
-    ensures ok { OnOk result (WritesNumber parts.old.items piece.now parts.new.items) }
+fn push_piece(numbers: &mut Numbers, alloc: Global, piece: &[u8]) -> Result<(), NameNo>
+    ensures ok { OnOk result (WritesNumber (numbers_in numbers.old) piece.now (numbers_in numbers.new)) }
     ensures bad { result ≡ Err NameNo.BadName → (n : ℕ) → n < 2 ^ 32 → decimal n ≢ piece.now }
 {
     let number = read_number(piece).ok_or(NameNo::BadName)?;
-    parts.push(number).map_err(|_| NameNo::Memory)
+    numbers.push(alloc, number).map_err(|_| NameNo::Memory)
 }
 
 // The number that the bytes write. Since a number is written in one way alone, it is read by writing it again.
