@@ -5,10 +5,11 @@ ghost use Rattle.sugar.specs.Sugar.{of_if, of_body, of_when, of_keyword, of_alte
 ghost use Rattle.sugar.specs.declared.core_form.CoreKind.TheVariants.{Fresh as FreshKind};
 
 use crate::core_form::{BadKind, Core, CoreKind, Cores, Tops};
-use crate::parts::{call_of, headed, let_of, push, symbol};
+use crate::parts::{call_of, headed, let_of, symbol};
 use crate::words::is_form_word;
 use sexpr_reader::{Form, FormKind, Forms};
 use std::alloc::{AllocError, Global};
+use value_core::lists::add;
 use value_core::{Place, Seq};
 
 /// The core forms of a source's forms, in their order: the shorthands are written out, and the names that they make
@@ -97,7 +98,7 @@ impl Expander {
         ensures parts { IfOk result (λ _. parts.new ≡ parts.old ++ (meaning form.now).core self.old.next ∷ []) }
         ensures next { IfOk result (λ _. self.new.next ≡ self.old.next + (meaning form.now).made) }
     {
-        push(parts, self.form(form)?)
+        add(parts, self.form(form)?)
     }
 
     /// The core form of a list.
@@ -141,7 +142,7 @@ impl Expander {
             return self.plain(at, forms);
         }
         let mut parts = self.cores(forms)?;
-        push(&mut parts, Core::new(at, CoreKind::Nil))?;
+        add(&mut parts, Core::new(at, CoreKind::Nil))?;
         Ok(Core::new(at, CoreKind::List(parts)))
     }
 
@@ -155,8 +156,8 @@ impl Expander {
         };
         let mut parts = headed(self.alloc, at, b"if")?;
         self.push_form(condition, &mut parts)?;
-        push(&mut parts, self.body(at, expressions)?)?;
-        push(&mut parts, Core::new(at, CoreKind::Nil))?;
+        add(&mut parts, self.body(at, expressions)?)?;
+        add(&mut parts, Core::new(at, CoreKind::Nil))?;
         Ok(Core::new(at, CoreKind::List(parts)))
     }
 
@@ -234,7 +235,7 @@ impl Expander {
     {
         for value in values {
             let name = self.bind(at, value, bindings)?;
-            push(call, Core::new(at, CoreKind::Fresh(name)))?;
+            add(call, Core::new(at, CoreKind::Fresh(name)))?;
         }
         Ok(())
     }
@@ -247,7 +248,7 @@ impl Expander {
         ensures next { IfOk result (λ _. self.new.next ≡ self.old.next + 1 + (meaning value.now).made) }
     {
         let name = self.fresh()?;
-        push(bindings, Core::new(at, CoreKind::Fresh(name)))?;
+        add(bindings, Core::new(at, CoreKind::Fresh(name)))?;
         self.push_form(value, bindings)?;
         Ok(name)
     }

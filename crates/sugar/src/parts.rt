@@ -1,18 +1,12 @@
-ghost use Rattle.std.specs.Prelude.{◌≡◌, [], ◌∷◌, ◌++◌, codes, IfOk};
+ghost use Rattle.std.specs.Prelude.{◌≡◌, [], ◌∷◌, codes, IfOk};
 ghost use Rattle.sugar.specs.Meaning.{core_at};
 ghost use Rattle.sugar.specs.Sugar.{call, word};
 ghost use Rattle.sugar.specs.declared.core_form.CoreKind.TheVariants.{Sym as SymKind, Fresh as FreshKind, List as ListKind, Vector as VectorKind};
 
 use crate::core_form::{Core, CoreKind, Cores};
 use std::alloc::{AllocError, Global};
+use value_core::lists::add;
 use value_core::{Place, Seq, Text};
-
-/// Puts the core form behind the parts.
-pub fn push(parts: &mut Cores, part: Core) -> Result<(), AllocError>
-    ensures { IfOk result (λ _. parts.new ≡ parts.old ++ part ∷ []) }
-{
-    parts.push(part).map_err(|_| AllocError)
-}
 
 /// The symbol with this name.
 pub fn symbol(alloc: Global, at: Place, name: &[u8]) -> Result<Core, AllocError>
@@ -26,7 +20,7 @@ pub fn headed(alloc: Global, at: Place, name: &[u8]) -> Result<Cores, AllocError
     ensures { IfOk result (λ parts. parts ≡ core_at at (SymKind name.now) ∷ []) }
 {
     let mut parts = Seq::new(alloc);
-    push(&mut parts, symbol(alloc, at, name)?)?;
+    add(&mut parts, symbol(alloc, at, name)?)?;
     Ok(parts)
 }
 
@@ -35,10 +29,10 @@ pub fn call_of(alloc: Global, at: Place, head: Core, name: u32) -> Result<Cores,
     ensures { IfOk result (λ parts. parts ≡ head ∷ call at (word at (codes "deref")) (core_at at (FreshKind name) ∷ []) ∷ []) }
 {
     let mut parts = Seq::new(alloc);
-    push(&mut parts, head)?;
+    add(&mut parts, head)?;
     let mut dereferenced = headed(alloc, at, b"deref")?;
-    push(&mut dereferenced, Core::new(at, CoreKind::Fresh(name)))?;
-    push(&mut parts, Core::new(at, CoreKind::List(dereferenced)))?;
+    add(&mut dereferenced, Core::new(at, CoreKind::Fresh(name)))?;
+    add(&mut parts, Core::new(at, CoreKind::List(dereferenced)))?;
     Ok(parts)
 }
 
@@ -53,8 +47,8 @@ pub fn let_of(
     ensures { IfOk result (λ core. core ≡ call at (word at (codes "let")) (core_at at (VectorKind bindings) ∷ call at (word at (codes "ref-set")) (core_at at (FreshKind name) ∷ core_at at (ListKind parts) ∷ []) ∷ [])) }
 {
     let mut whole = headed(alloc, at, b"let")?;
-    push(&mut whole, Core::new(at, CoreKind::Vector(bindings)))?;
-    push(&mut whole, set_of(alloc, at, name, parts)?)?;
+    add(&mut whole, Core::new(at, CoreKind::Vector(bindings)))?;
+    add(&mut whole, set_of(alloc, at, name, parts)?)?;
     Ok(Core::new(at, CoreKind::List(whole)))
 }
 
@@ -63,7 +57,7 @@ fn set_of(alloc: Global, at: Place, name: u32, parts: Cores) -> Result<Core, All
     ensures { IfOk result (λ core. core ≡ call at (word at (codes "ref-set")) (core_at at (FreshKind name) ∷ core_at at (ListKind parts) ∷ [])) }
 {
     let mut setting = headed(alloc, at, b"ref-set")?;
-    push(&mut setting, Core::new(at, CoreKind::Fresh(name)))?;
-    push(&mut setting, Core::new(at, CoreKind::List(parts)))?;
+    add(&mut setting, Core::new(at, CoreKind::Fresh(name)))?;
+    add(&mut setting, Core::new(at, CoreKind::List(parts)))?;
     Ok(Core::new(at, CoreKind::List(setting)))
 }
