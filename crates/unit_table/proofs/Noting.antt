@@ -1,6 +1,7 @@
 -- A piece is noted in the table, and put into its place.
 use Rattle.std.proofs.Common.{◌≡◌, ◌<◌, ◌∙◌, ℕ, Bool, List, Option, Some, None, IsSome, length, refl, sym, ap, subst, arith}
 use Rattle.std.specs.Option.{IfSome, option_and_then, option_map}
+use Rattle.std.specs.BTreeMap.{BTreeMap}
 use Rattle.record_pool.specs.Pool.{find}
 use Rattle.unit_table.specs.Board.{Board, CanWait, IsPutAt, IsUnlent, SameClaims, marks_ready, name_in, piece_at}
 use Rattle.unit_table.specs.Keeping.{IsEmptyPlace, IsKept, IsMarkedAs, IsNoted, SameSlots, board_of, need_at, ticket_at, waits_for}
@@ -157,10 +158,10 @@ module _ (old mid : Places) (records : Named Record) (ticket : Ticket) (piece : 
       (noted_put old mid records place.name ticket (Some piece) _ kept place.there notes changes_place (λ r after there is. is) waits_none)
 
 -- a mark is put on a piece
-module _ (old mid : Places) (records : Named Record) (name : Name) (ticket : Ticket) (mark : Mark) (flag : Bool) (need : Option ℕ)
+module _ (old mid : Places) (records : BTreeMap Name Record) (name : Name) (ticket : Ticket) (mark : Mark) (flag : Bool) (need : Option ℕ)
     (kept : IsKept (board_of old) old.waits) (is : ticket_at old.records.entries name ≡ Some ticket) (there : IsSome (piece_at (board_of old) name)) (can_wait : CanWait (board_of old) mark)
-    (noted : IsNoted old mid ticket flag need) (flag_is : flag ≡ says_ready mark) (need_is : need ≡ need_at old.records.entries (awaited mark))
-    (changed : IsChanged name mid.records.entries records (IsMarkedAs mark)) where
+    (noted : IsNoted (record old { records = records }) mid ticket flag need) (flag_is : flag ≡ says_ready mark) (need_is : need ≡ need_at old.records.entries (awaited mark))
+    (changed : IsChanged name old.records.entries records.entries (IsMarkedAs mark)) where
   abbrev pub then : Option Piece
   then = option_and_then (marked mark) (piece_at (board_of old) name)
 
@@ -192,12 +193,28 @@ module _ (old mid : Places) (records : Named Record) (name : Name) (ticket : Tic
       on None none = absurd (cc)
       on (Some p) stands = on_piece mark p
 
-  notes_mark : IsNoted old mid ticket (marks_ready then) (need_at old.records.entries (waits_for then))
-  notes_mark = subst (λ t. IsNoted old mid ticket t (need_at old.records.entries (waits_for then))) (flag_is ∙ sym ready_same)
-      (subst (λ n. IsNoted old mid ticket flag n) (need_is ∙ ap (need_at old.records.entries) (sym waits_same)) noted)
+  -- the same, before the mark is put
+  abbrev unput : Places
+  unput = record mid { records = old.records }
 
-  marks_place : IsChanged name old.records.entries records (IsMarkedAs mark)
-  marks_place = subst (λ (m : _). IsChanged name m.entries records (IsMarkedAs mark)) noted.records changed
+  notes_unput : IsNoted old unput ticket flag need
+  notes_unput = record {
+    records = refl;
+    names = noted.names;
+    flagged = noted.flagged;
+    tied = noted.tied;
+    need_here = noted.need_here;
+    need_others = noted.need_others;
+    room = noted.room;
+  }
+
+  notes_mark : IsNoted old unput ticket (marks_ready then) (need_at old.records.entries (waits_for then))
+  notes_mark = subst (λ t. IsNoted old unput ticket t (need_at old.records.entries (waits_for then))) (flag_is ∙ sym ready_same)
+      (subst (λ n. IsNoted old unput ticket flag n) (need_is ∙ ap (need_at old.records.entries) (sym waits_same)) notes_unput)
+
+  -- what holds of the board with these records holds of that board
+  on_board : (P : Board → Type 0) → P (noted_board unput records.entries) → P (board_of mid)
+  on_board P holds = subst (λ (m : BTreeMap Name Record). P (noted_board unput m.entries)) (sym noted.records) holds
 
   puts_mark : (r after : Record) → named name old.records.entries ≡ Some r → IsMarkedAs mark r after → after ≡ record r { piece = then }
   puts_mark r after found is_marked = is_marked ∙ ap (λ o. record r { piece = option_and_then (marked mark) o }) (sym (ap (option_and_then (λ (x : Record). x.piece)) found))
@@ -205,20 +222,20 @@ module _ (old mid : Places) (records : Named Record) (name : Name) (ticket : Tic
   waits_there : IfSome (waits_for then) (λ f. IsSome (named f old.records.entries))
   waits_there = subst (λ o. IfSome o (λ f. IsSome (named f old.records.entries))) (sym waits_same) can_wait
 
-  pub marked_keeps : IsKept (noted_board mid records) mid.waits
-  marked_keeps = noted_keeps old mid records name ticket then (IsMarkedAs mark) kept is notes_mark marks_place puts_mark waits_there
+  pub marked_keeps : IsKept (board_of mid) mid.waits
+  marked_keeps = on_board (λ b. IsKept b mid.waits) (noted_keeps old unput records.entries name ticket then (IsMarkedAs mark) kept is notes_mark changed puts_mark waits_there)
 
-  pub marked_put : IsPutAt name then (board_of old) (noted_board mid records)
-  marked_put = noted_put old mid records name ticket then (IsMarkedAs mark) kept is notes_mark marks_place puts_mark waits_there
+  pub marked_put : IsPutAt name then (board_of old) (board_of mid)
+  marked_put = on_board (IsPutAt name then (board_of old)) (noted_put old unput records.entries name ticket then (IsMarkedAs mark) kept is notes_mark changed puts_mark waits_there)
 
-  pub marked_unlent : IsUnlent name (board_of old) (noted_board mid records)
-  marked_unlent = noted_unlent old mid records name ticket then (IsMarkedAs mark) kept is notes_mark marks_place puts_mark waits_there
+  pub marked_unlent : IsUnlent name (board_of old) (board_of mid)
+  marked_unlent = on_board (IsUnlent name (board_of old)) (noted_unlent old unput records.entries name ticket then (IsMarkedAs mark) kept is notes_mark changed puts_mark waits_there)
 
-  pub marked_ticket : ticket_at records name ≡ Some ticket
-  marked_ticket = noted_ticket old mid records name ticket then (IsMarkedAs mark) kept is notes_mark marks_place puts_mark waits_there
+  pub marked_ticket : ticket_at mid.records.entries name ≡ Some ticket
+  marked_ticket = on_board (λ b. ticket_at b.records name ≡ Some ticket) (noted_ticket old unput records.entries name ticket then (IsMarkedAs mark) kept is notes_mark changed puts_mark waits_there)
 
-  pub marked_places : (q : Name) → IsSome (named q old.records.entries) → IsSome (named q records)
-  marked_places = noted_places old mid records name ticket then (IsMarkedAs mark) kept is notes_mark marks_place puts_mark waits_there
+  pub marked_places : (q : Name) → IsSome (named q old.records.entries) → IsSome (named q mid.records.entries)
+  marked_places q had = on_board (λ b. IsSome (named q b.records)) (noted_places old unput records.entries name ticket then (IsMarkedAs mark) kept is notes_mark changed puts_mark waits_there q had)
 
-  pub marked_slots : SameSlots (board_of old) (noted_board mid records)
-  marked_slots = noted_slots old mid records name ticket then (IsMarkedAs mark) kept is notes_mark marks_place puts_mark waits_there
+  pub marked_slots : SameSlots (board_of old) (board_of mid)
+  marked_slots = on_board (SameSlots (board_of old)) (noted_slots old unput records.entries name ticket then (IsMarkedAs mark) kept is notes_mark changed puts_mark waits_there)

@@ -128,32 +128,34 @@ impl Places {
         ensures places { (other : Called) → HasPlace (board_of self.old) other → HasPlace (board_of self.new) other }
         ensures slots { SameSlots (board_of self.old) (board_of self.new) }
     {
-        if let Some(ticket) = self.ticket_of(name) {
-            let is_finished = mark.is_finished();
-            self.put_mark(name, ticket, mark);
-            if is_finished {
-                wake_all(self, name, ticket.slot);
-            }
+        let is_finished = mark.is_finished();
+        let ticket = self.put_mark(name, mark);
+        if is_finished {
+            wake_all(self, name, ticket.slot);
         }
     }
 
-    /// Puts the mark on that piece alone.
-    fn put_mark(&mut self, name: &Name, ticket: Ticket, mark: Mark)
+    /// Puts the mark on that piece alone, and answers its ticket.
+    fn put_mark(&mut self, name: &Name, mark: Mark) -> Ticket
         requires kept { IsKept (board_of self.old) self.old.waits }
-        requires ticket { ticket_at (board_of self.old).records name.now ≡ Some ticket }
         requires there { IsSome (piece_at (board_of self.old) name.now) }
         requires can_wait { CanWait (board_of self.old) mark }
         ensures kept { IsKept (board_of self.new) self.new.waits }
         ensures put { IsPutAt name.now (option_and_then (marked mark) (piece_at (board_of self.old) name.now)) (board_of self.old) (board_of self.new) }
         ensures claims { IsUnlent name.now (board_of self.old) (board_of self.new) }
-        ensures ticket { ticket_at (board_of self.new).records name.now ≡ Some ticket }
+        ensures ticket { ticket_at (board_of self.new).records name.now ≡ Some result }
         ensures places { (other : Called) → HasPlace (board_of self.old) other → HasPlace (board_of self.new) other }
         ensures slots { SameSlots (board_of self.old) (board_of self.new) }
     {
         let is_ready = mark.is_ready();
         let need = self.need_of(&mark);
-        self.note(ticket, is_ready, need);
-        put_mark(&mut self.records, name, mark);
+        match put_mark(&mut self.records, name, mark) {
+            Some(ticket) => {
+                self.note(ticket, is_ready, need);
+                ticket
+            }
+            None => unreachable!(),
+        }
     }
 
     /// The slot of what a piece of that mark waits for.

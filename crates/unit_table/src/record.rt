@@ -103,13 +103,22 @@ pub(crate) fn fill(records: &mut BTreeMap<Name, Record>, name: &Name, piece: Pie
     }
 }
 
-/// Puts the mark on what stands in the place, where something does; it is gone where it is dropped. It takes no memory.
-pub(crate) fn put_mark(records: &mut BTreeMap<Name, Record>, name: &Name, mark: Mark)
-    ensures { IsChanged name.now records.old.entries records.new.entries (IsMarkedAs mark) }
+/// Puts the mark on what stands in the place, where something does; it is gone where it is dropped. It answers the ticket of
+/// the place, where there is one. It takes no memory.
+pub(crate) fn put_mark(
+    records: &mut BTreeMap<Name, Record>,
+    name: &Name,
+    mark: Mark,
+) -> Option<Ticket>
+    ensures changed { IsChanged name.now records.old.entries records.new.entries (IsMarkedAs mark) }
+    ensures ticket { result ≡ ticket_at records.old.entries name.now }
 {
     match records.get_mut(name) {
-        Some(place) => place.put_mark(mark),
-        None => {}
+        Some(place) => {
+            place.put_mark(mark);
+            Some(place.ticket)
+        }
+        None => None,
     }
 }
 

@@ -2,13 +2,16 @@ ghost use Rattle.std.specs.Prelude.{◌≡◌, ◌<◌, None, Some, IfNone, IfOk
 ghost use Rattle.std.specs.Option.{option_copied};
 ghost use Rattle.unit_table.specs.Board.{is_unfinished, HasPlace, SameClaims, SamePieces};
 ghost use Rattle.unit_table.specs.Keeping.{board_of, slot_at, ticket_at, AreUnfinished, IsKept, IsUnfinishedNoted};
+ghost use Rattle.unit_table.specs.Piece.{goes_on};
+ghost use Rattle.value_core.specs.NameSet.{holds_at};
 ghost use Rattle.value_core.specs.Named.{named, Name as Called};
 
 use crate::piece::Piece;
 use crate::places::Places;
-use crate::record::slot_in;
+use crate::record::Record;
 use slot_set::SlotSet;
 use std::alloc::{AllocError, Global};
+use value_core::name_map::find;
 use value_core::{Name, Ticket};
 
 /// The ticket of the place under the name, which is made where there is none, and for which the set has room; or finds no
@@ -61,19 +64,18 @@ pub(crate) fn note(places: &Places, unfinished: &mut SlotSet, name: &Name)
     requires { IfSome (slot_at (board_of places.now).records name.now) (λ slot. slot < length unfinished.old) }
     ensures { IsUnfinishedNoted (board_of places.now) name.now unfinished.old unfinished.new }
 {
-    let goes_on = goes_on(places, name);
-    match slot_in(&places.records, name) {
-        Some(slot) if goes_on => unfinished.insert(slot),
-        Some(slot) => unfinished.remove(slot),
+    match find(&places.records, name) {
+        Some(place) if goes_on(place) => unfinished.insert(place.ticket.slot),
+        Some(place) => unfinished.remove(place.ticket.slot),
         None => {}
     }
 }
 
-/// Whether a unit that is not finished stands under the name.
-fn goes_on(places: &Places, name: &Name) -> bool
-    ensures { result ≡ is_unfinished (board_of places.now) name.now }
+/// Whether a unit that is not finished stands in the place.
+fn goes_on(place: &Record) -> bool
+    ensures { result ≡ holds_at goes_on place.now.piece }
 {
-    match places.piece(name) {
+    match &place.piece {
         Some(Piece::Unit(unit)) => !unit.mark.is_finished(),
         _ => false,
     }

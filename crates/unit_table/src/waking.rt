@@ -8,7 +8,7 @@ ghost use Rattle.value_core.specs.Named.{named, Name as Called};
 
 use crate::mark::{Mark, Work};
 use crate::places::Places;
-use crate::record::{Record, put_mark, ticket_in};
+use crate::record::{Record, put_mark};
 use piece_table::PieceTable;
 use std::collections::BTreeMap;
 use value_core::Name;
@@ -76,8 +76,7 @@ fn settle(records: &mut BTreeMap<Name, Record>, table: &mut PieceTable, name: &N
     requires { IfSome (named name.now records.old.entries) (λ r. IsSome (find table.old.pieces r.ticket)) }
     ensures { IsSettled name.now records.old.entries records.new.entries table.old table.new }
 {
-    if let Some(ticket) = ticket_in(records, name) {
-        put_mark(records, name, Mark::Ready(Work::Settle));
+    if let Some(ticket) = put_mark(records, name, Mark::Ready(Work::Settle)) {
         table.mark(ticket, true);
     }
 }
