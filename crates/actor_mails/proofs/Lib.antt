@@ -1,6 +1,6 @@
 pub mod BoxLaws
 pub mod Crossing
 pub mod Dropping
+pub mod Firsts
 pub mod Held
-pub mod Nexts
 pub mod Waiting

@@ -1,4 +1,4 @@
-ghost use Rattle.std.specs.Prelude.{◌≡◌, ◌↔◌, ◌+◌, ◌<◌, ◌≤◌, [], ◌∷◌, ◌++◌, length, IfNone, IfSome, IsOk, IsTrue, MatchOption, None, OnErr, OnOk, Some, slice_get, true};
+ghost use Rattle.std.specs.Prelude.{◌≡◌, if◌then◌else◌, ◌↔◌, ◌+◌, ◌<◌, ◌≤◌, [], ◌∷◌, ◌++◌, length, IfOk, IsOk, IsTrue, MatchOption, None, OnErr, OnOk, Some, slice_get, true};
 ghost use Rattle.std.specs.List.{list_any};
 ghost use Rattle.std.specs.Option.{option_copied};
 ghost use Rattle.std.specs.Range.Bound.{bound_map};
@@ -7,7 +7,7 @@ ghost use Rattle.actor_mailbox.specs.Messages.{depends_on, settle_first, without
 ghost use Rattle.actor_mailbox.specs.Unsettled.{unsettled_of};
 ghost use Rattle.value_core.specs.Named.{named, same_name, Name as Called, Rises};
 ghost use Rattle.actor_mails.specs.Mails.{held, mail_at, room_at, IsMailed, KeepsRoom, KeepsRoomBut, NoMail, SameMailBut};
-ghost use Rattle.actor_mails.specs.Nexts.{after_bound, IsAfter, IsNextWithMail};
+ghost use Rattle.actor_mails.specs.Firsts.{bound_with, start_bound, IsBounded, IsFirstWithMail};
 
 use actor_mailbox::{Mailbox, Message};
 use std::alloc::{AllocError, Global};
@@ -20,10 +20,12 @@ use value_core::{Name, name_map};
 #[derive(Drop)]
 pub struct Mails {
     boxes: BTreeMap<Name, Mailbox>,
+    // no actor that comes before it in after-order has mail
+    start: Option<Name>,
 }
 
 impl Model for Mails {
-    ghost use Rattle.value_core.specs.Named.{Rises};
+    ghost use Rattle.actor_mails.specs.Firsts.{IsBounded};
     ghost use Rattle.actor_mails.specs.Mails.{boxes_code, Boxes};
 
     ghost Value = { Boxes };
@@ -32,7 +34,7 @@ impl Model for Mails {
 
     ghost view = { λ m. m.boxes.entries };
 
-    ghost invariant = { λ m. Rises m.boxes.entries };
+    ghost invariant = { λ m. IsBounded m.start m.boxes.entries };
 }
 
 impl Mails {
@@ -42,6 +44,7 @@ impl Mails {
     {
         Mails {
             boxes: BTreeMap::new(alloc),
+            start: None,
         }
     }
 
@@ -65,6 +68,7 @@ impl Mails {
         ensures kept { KeepsRoomBut to.now self.old self.new }
     {
         put(&mut self.boxes, to, message);
+        move_bound(&mut self.start, to);
     }
 
     /// Puts the message before those that wait for that actor, for which there must be room. The mail and the room of the
@@ -76,6 +80,7 @@ impl Mails {
         ensures kept { KeepsRoomBut to.now self.old self.new }
     {
         put_first(&mut self.boxes, to, message);
+        move_bound(&mut self.start, to);
     }
 
     /// Puts the message behind those that wait for that actor, or finds no memory. The mail of the others stays, and all
@@ -100,6 +105,7 @@ impl Mails {
         ensures kept { KeepsRoomBut to.now self.old self.new }
     {
         append(&mut self.boxes, to, more);
+        move_bound(&mut self.start, to);
     }
 
     /// The message that has waited longest for that actor, and none exactly where none waits. It takes no memory.
@@ -119,13 +125,20 @@ impl Mails {
         are_empty(&self.boxes)
     }
 
-    /// The first actor that comes after this one in after-order, or of all where none is given, for which a message waits.
-    /// None exactly where there is none. It takes no memory.
-    pub fn next_with_mail(&self, after: Option<&Name>) -> Option<&Name>
-        ensures some { IfSome (option_copied result) (IsNextWithMail (held self.now) (option_copied after.entry)) }
-        ensures none { IfNone (option_copied result) ((other : Called) → IsAfter (option_copied after.entry) other → mail_at (held self.now) other ≡ []) }
+    /// The first actor in after-order for which a message waits. None exactly where nobody has mail. All mail and room stay,
+    /// also for want of memory. It takes few steps over a run: each box is passed once until mail comes to an actor before
+    /// it.
+    pub fn first_with_mail(&mut self, alloc: Global) -> Result<Option<Name>, AllocError>
+        ensures kept { self.new ≡ self.old }
+        ensures first { IfOk result (λ found. MatchOption found (NoMail (held self.old)) (IsFirstWithMail (held self.old))) }
     {
-        next_with_mail(&self.boxes, after)
+        match copy_first(&self.boxes, alloc, self.start.as_ref())? {
+            Some(first) => {
+                self.start = Some(first.copy(alloc)?);
+                Ok(Some(first))
+            }
+            None => Ok(None),
+        }
     }
 
     /// Takes the message that has waited longest for that actor, and none exactly where none waits. The mail of the others
@@ -325,12 +338,27 @@ fn are_empty(boxes: &BTreeMap<Name, Mailbox>) -> bool
     true
 }
 
-/// The first actor after this one, or of all where none is given, whose box has a message.
-fn next_with_mail<'a>(boxes: &'a BTreeMap<Name, Mailbox>, after: Option<&Name>) -> Option<&'a Name>
-    ensures some { IfSome (option_copied result) (IsNextWithMail (held boxes.now.entries) (option_copied after.entry)) }
-    ensures none { IfNone (option_copied result) ((other : Called) → IsAfter (option_copied after.entry) other → mail_at (held boxes.now.entries) other ≡ []) }
+/// A copy of the first actor whose box has a message, where none has one before the bound.
+fn copy_first(
+    boxes: &BTreeMap<Name, Mailbox>,
+    alloc: Global,
+    start: Option<&Name>,
+) -> Result<Option<Name>, AllocError>
+    requires { IsBounded (option_copied start) boxes.now.entries }
+    ensures { IfOk result (λ found. MatchOption found (NoMail (held boxes.now.entries)) (IsFirstWithMail (held boxes.now.entries))) }
 {
-    for (next, mailbox) in boxes.range((start_after(after), Bound::Unbounded)) {
+    match first_from(boxes, start) {
+        Some(first) => Ok(Some(first.copy(alloc)?)),
+        None => Ok(None),
+    }
+}
+
+/// The first actor whose box has a message, where none has one before the bound.
+fn first_from<'a>(boxes: &'a BTreeMap<Name, Mailbox>, start: Option<&Name>) -> Option<&'a Name>
+    requires { IsBounded (option_copied start) boxes.now.entries }
+    ensures { MatchOption (option_copied result) (NoMail (held boxes.now.entries)) (IsFirstWithMail (held boxes.now.entries)) }
+{
+    for (next, mailbox) in boxes.range((bound_of(start), Bound::Unbounded)) {
         if mailbox.front().is_some() {
             return Some(next);
         }
@@ -338,13 +366,32 @@ fn next_with_mail<'a>(boxes: &'a BTreeMap<Name, Mailbox>, after: Option<&Name>) 
     None
 }
 
-/// From where on the names come after this one.
-fn start_after(after: Option<&Name>) -> Bound<&Name>
-    ensures { bound_map (λ q. q.now) result ≡ after_bound (option_copied after.entry) }
+/// From where on the names don't come before the bound.
+fn bound_of(start: Option<&Name>) -> Bound<&Name>
+    ensures { bound_map (λ q. q.now) result ≡ start_bound (option_copied start.entry) }
 {
-    match after {
-        Some(actor) => Bound::Excluded(actor),
+    match start {
+        Some(actor) => Bound::Included(actor),
         None => Bound::Unbounded,
+    }
+}
+
+/// Gives the bound up where the actor comes before it.
+fn move_bound(start: &mut Option<Name>, to: &Name)
+    ensures { start.new ≡ bound_with to.now start.old }
+{
+    if is_before(start, to) {
+        *start = None;
+    }
+}
+
+/// Whether the actor comes before the bound.
+fn is_before(start: &Option<Name>, to: &Name) -> bool
+    ensures { bound_with to.now start.now ≡ if result then None else start.now }
+{
+    match start {
+        Some(actor) => to.cmp_after(actor).is_lt(),
+        None => false,
     }
 }
 

@@ -105,15 +105,23 @@ fn what_is_put_where_room_was_made_is_there(rt: HostRuntime) -> Result<(), Fail>
 }
 
 #[test]
-fn the_next_actor_is_one_that_has_mail(rt: HostRuntime) -> Result<(), Fail> {
+fn the_first_actor_is_one_that_has_mail(rt: HostRuntime) -> Result<(), Fail> {
     let mut mails = mail_of_two(rt.alloc())?;
-    let (zero, one) = (name(rt.alloc(), 0)?, name(rt.alloc(), 1)?);
-    assert!(rt; mails.next_with_mail(None) == Some(&zero));
-    assert!(rt; mails.next_with_mail(Some(&zero)) == Some(&one));
-    assert!(rt; mails.next_with_mail(Some(&one)).is_none());
+    assert!(rt; is_first(rt.alloc(), &mut mails, 0)?);
     assert!(rt; has_mail(rt.alloc(), &mut mails, 0, &[1, 3])?);
-    assert!(rt; mails.next_with_mail(None) == Some(&one));
+    assert!(rt; is_first(rt.alloc(), &mut mails, 1)?);
+    let zero = name(rt.alloc(), 0)?;
+    mails.push(rt.alloc(), &zero, message(rt.alloc(), 4, 4, None)?)?;
+    assert!(rt; is_first(rt.alloc(), &mut mails, 0)?);
+    assert!(rt; has_mail(rt.alloc(), &mut mails, 0, &[4])?);
+    assert!(rt; has_mail(rt.alloc(), &mut mails, 1, &[2])?);
+    assert!(rt; mails.first_with_mail(rt.alloc())?.is_none());
     Ok(())
+}
+
+fn is_first(alloc: Global, mails: &mut Mails, number: u32) -> Result<bool, AllocError> {
+    let first = mails.first_with_mail(alloc)?;
+    Ok(first == Some(name(alloc, number)?))
 }
 
 #[test]

@@ -1,0 +1,9 @@
+use Rattle.std.proofs.Common.{sym, subst}
+use Rattle.actor_mails.proofs.Firsts.{moved}
+use Rattle.actor_mails.specs.Firsts.{IsBounded}
+use Rattle.actor_mails.proofs.mails.Mails.append.Goals as goal
+
+pub invariant_of-self : goal.invariant_of-self
+invariant_of-self c =
+    subst (λ start. IsBounded start c.append.new.boxes.entries) (sym c.move_bound.ensures)
+    (moved c.self.inside.start c.args.to.now _ c.self.inside.boxes.entries c.append.new.boxes.entries c.self.invariant (c.append.ensures.rises c.self.invariant.rises) c.append.ensures.mail)
