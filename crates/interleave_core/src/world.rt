@@ -124,10 +124,10 @@ impl World {
     }
 
     /// Ends the run by one thread: every claim and every attempt ends, what ran ahead of the history goes back to where that left it, and
-    /// then one entry after the other is settled, each in turn, until the run is over; it answers the end. The unit goes that is first in
-    /// after-order among those that are not finished, and a turn begins only where each unit is finished. Then no attempt is left, no
-    /// claim is out, nothing is held, and no turn is begun that the history does not know. For want of memory the history has grown by
-    /// whole entries, each in turn.
+    /// then one entry after the other is settled, each in turn, until the run is over; it answers the end. In turn is the entry that one
+    /// thread settles next: the unit goes that is first in after-order among those that are not finished, and where each is finished, the
+    /// first actor with mail begins a turn, on a message of the first of its senders. Then no attempt is left, no claim is out, nothing is
+    /// held, and no turn is begun that the history does not know. For want of memory the history has grown by whole entries, each in turn.
     pub fn finish(&mut self, alloc: Global) -> Result<End, AllocError>
         ensures finished { IfOk result (IsFinished self.new) }
         ensures later { IsLater self.old self.new }

@@ -69,7 +69,7 @@ use Rattle.world_model.specs.World as world
 
 -- ---- what goes on
 -- where the same runs ahead and is taken
-level-same : (old new : Shared) → new.aheads ≡ old.aheads → new.taken ≡ old.taken → IsLevel old → IsLevel new
+pub level-same : (old new : Shared) → new.aheads ≡ old.aheads → new.taken ≡ old.taken → IsLevel old → IsLevel new
 level-same old new aheads taken level = record { aheads = λ u. ap (named u) aheads ∙ level.aheads u; taken = λ a. ap (named a) taken ∙ level.taken a }
 
 pub goes-itself : (s : Shared) → Stands s → GoesOn s s

@@ -6,19 +6,21 @@ use Rattle.std.specs.Option.{option_and_then, option_map}
 use Rattle.std.specs.Ordering.{is_gt, ordering_reverse}
 use Rattle.std.specs.Prelude.{IfSome, IsSome, None, Option, Some, not}
 use Rattle.lent_pieces.specs.Giving.{IsOpenUnit}
-use Rattle.run_end.specs.InTurn.{AreInTurn, GoesInTurn, IsDue, IsDuePiece, IsInTurn, IsOpen, IsUpTo}
+use Rattle.run_end.proofs.First.{run-first, unit-first}
+use Rattle.run_end.specs.InTurn.{AreInTurn, GoesInTurn, IsInTurn, IsOpenPiece, IsUpTo}
+use Rattle.serial_model.proofs.runs.Stuck.{IsSound, replay-sound}
+use Rattle.serial_model.proofs.tasks.TaskKeeps.{transactions-keep}
 use Rattle.serial_model.proofs.runs.Replays.{replay_from-append}
 use Rattle.serial_model.specs.declared.entry.Entry.{Entry}
-use Rattle.serial_model.specs.declared.entry.Entry.TheVariants.{Run, Take}
+use Rattle.serial_model.specs.declared.entry.Entry.TheVariants.{Run}
 use Rattle.serial_model.specs.Replay.{replay, replay_from}
 use Rattle.serial_model.specs.State.{Setup, State, UnitState, opening}
 use Rattle.serial_model.specs.Step.{step}
 use Rattle.shared_world.proofs.Live.{unit-piece}
-use Rattle.shared_world.proofs.Over.{now, replays-here}
+use Rattle.shared_world.proofs.Over.{end-same, now, replays-here}
 use Rattle.shared_world.specs.declared.given.Given.{Given}
 use Rattle.shared_world.specs.declared.given.Given.TheVariants as given
 use Rattle.shared_world.specs.Later.{Appends, IsLater, settled_by}
-use Rattle.shared_world.specs.Rest.{AreFinished}
 use Rattle.shared_world.specs.Seen.{live_with}
 use Rattle.shared_world.specs.Shared.{Shared, finished_by, unit_state}
 use Rattle.shared_world.specs.Stands.{Stands}
@@ -101,7 +103,7 @@ turns-given old new st found is turn = record {
 
 -- ---- names in order
 -- what is not behind a name is that name, or comes before it
-not-behind : (u other : Name) → is_gt (after_cmp u other) ≡ false → IsUpTo u other
+pub not-behind : (u other : Name) → is_gt (after_cmp u other) ≡ false → IsUpTo u other
 not-behind u other not_gt = on (after_cmp u other) refl not_gt
   where
     on : (o : Ordering) → after_cmp u other ≡ o → is_gt o ≡ false → IsUpTo u other
@@ -116,6 +118,11 @@ both-up-to a b (inr less) (inl same) = sym same
 both-up-to a b (inr less) (inr other) = let no : Less ≡ Greater = sym less ∙ after_cmp_total.antisymm a b ∙ ap ordering_reverse other in cc
 
 -- ---- units that are not finished
+-- a unit is there that is not finished
+abbrev IsOpen : Option UnitState → Type 0
+IsOpen None = ⊥
+IsOpen (Some unit) = unit.finished ≡ None
+
 -- a unit stands there
 pub record IsOpenAt (b : Board) (u : Name) : Type 0 where
   pub unit : Unit
@@ -148,6 +155,10 @@ open-at b u is = on (piece_at b u) refl is
 pub unfinished-at : (b : Board) (u : Name) (x : Unit) → unit_at b u ≡ Some x → finished_by x.mark ≡ None → is_unfinished b u ≡ true
 unfinished-at b u x there none = ap (holds_at goes_on) (unit-piece b u x there) ∙ none-value x.mark none
 
+-- what holds of each state that a history replays to
+pub sound-here : (s : Shared) (st : Stands s) → IsSound s.setup (now s st)
+sound-here s st = replay-sound s.setup st.formed transactions-keep s.history (now s st) (replays-here s st)
+
 -- the units of the state are those that stand, where none runs ahead
 module _ (s : Shared) (st : Stands s) (level : (u : Name) → named u s.aheads ≡ None) where
   stands-so : (u : Name) → UnitStands s.setup st.world.actors st.world.taken u (option_map (live_with None) (option_map unit_state (unit_at s.board u))) (named u (now s st).units)
@@ -177,12 +188,18 @@ module _ (s : Shared) (st : Stands s) (level : (u : Name) → named u s.aheads �
       on (Some unit) stands = ap (λ (k : UnitState). k.finished) stands.0 ∙ at.unfinished
 
   -- a step of the first unit that is not finished is in turn
-  pub run-in-turn : (u : Name) → is_unfinished s.board u ≡ true → ((other : Name) → is_unfinished s.board other ≡ true → IsUpTo u other) → IsInTurn (now s st) (Run u)
-  run-in-turn u open_so first = record { unfinished = open-state u open_so; first = λ other is. first other (state-open other is) }
+  pub run-in-turn : s.end ≡ None → (u : Name) → is_unfinished s.board u ≡ true → ((other : Name) → is_unfinished s.board other ≡ true → IsUpTo u other) → IsInTurn (now s st) (Run u)
+  run-in-turn going u open_so first = on (named u (now s st).units) refl (open-state u open_so)
+    where
+      at : (unit : UnitState) → named u (now s st).units ≡ Some unit → unit.finished ≡ None → IsInTurn (now s st) (Run u)
+      at unit there unfinished =
+          run-first (now s st) (end-same s st ∙ going) u
+          (unit-first (now s st).units (sound-here s st).ordered.unit_names u unit there unfinished
+          (λ other k is none. first other (state-open other (subst IsOpen (sym is) none))))
 
-  -- and a turn that begins where each is finished
-  pub take-in-turn : (actor sender : Name) → AreFinished s.board → IsInTurn (now s st) (Take actor sender)
-  take-in-turn actor sender all u is = let no : true ≡ false = sym (state-open u is) ∙ all u in cc
+      on : (found : Option UnitState) → named u (now s st).units ≡ found → IsOpen found → IsInTurn (now s st) (Run u)
+      on None is opened = absurd opened
+      on (Some unit) is opened = at unit is opened
 
 -- ---- the walk
 some-piece : (found : Option Piece) → holds_at goes_on found ≡ true → IsSome found
@@ -193,9 +210,9 @@ some-piece (Some p) e = refl
 pub next-first : (b : Board) (passed : Option Name) (next : Name) → IsNextAfter b passed next → ((u : Name) → is_unfinished b u ≡ true → ComesAfter passed u) → (u : Name) → is_unfinished b u ≡ true → IsUpTo next u
 next-first b passed next is behind u open_so = not-behind next u (is.first u (behind u open_so) (some-piece (piece_at b u) open_so))
 
--- where it is due and a unit, it is not finished
-pub due-open : (b : Board) (name : Name) → IsDue b name → IsOpenUnit b name
-due-open b name due x there = on x.mark (subst (IsDuePiece b) (unit-piece b name x there) due)
+-- an open piece is no finished unit
+pub open-unit : (b : Board) (name : Name) → IsOpenPiece (piece_at b name) → IsOpenUnit b name
+open-unit b name opened x there = on x.mark (subst IsOpenPiece (unit-piece b name x there) opened)
   where
     on : (m : Mark) → says_finished m ≡ false → finished_by m ≡ None
     on (mark.Ready w) e = refl

@@ -1,3 +1,4 @@
 pub mod Finishing
 pub mod InTurn
 pub mod Over
+pub mod Sorted

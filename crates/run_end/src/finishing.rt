@@ -1,16 +1,20 @@
 // How one thread ends a run.
 ghost use Rattle.std.specs.Prelude.{◌≡◌, [], IfOk, None, OnOk, Some, false, true};
 ghost use Rattle.std.specs.Option.{option_and_then};
+ghost use Rattle.actor_mails.specs.Firsts.{IsFirstWithMail};
+ghost use Rattle.actor_mails.specs.Mails.{held};
 ghost use Rattle.run_end.specs.Finishing.{AreEnding, GoesOn, IsEnded, IsFinished, IsOverOr, NoneOut, NoneTried};
-ghost use Rattle.run_end.specs.InTurn.{GoesInTurn, IsDue, IsLeft, IsWalked, IsWalkedOr, IsLevel, number_at};
+ghost use Rattle.run_end.specs.InTurn.{GoesInTurn, IsDue, IsLeft, IsMadeBehind, IsOpenPiece, IsUpToOpen, IsWalked, IsWalkedOr, IsLevel, number_at};
 ghost use Rattle.run_end.specs.Over.{IsOverWith};
+ghost use Rattle.run_end.specs.Sorted.{IsSorted};
 ghost use Rattle.shared_world.specs.Few.{KeepsFew};
 ghost use Rattle.shared_world.specs.Later.{IsLater};
 ghost use Rattle.shared_world.specs.Marks.{HasMarks};
+ghost use Rattle.shared_world.specs.Rest.{AreFinished};
 ghost use Rattle.shared_world.specs.rows.Attempts.{ArePrunedFor};
 ghost use Rattle.shared_world.specs.Shared.{work_in as kept_work_in};
 ghost use Rattle.shared_world.specs.Stands.{Stands};
-ghost use Rattle.unit_table.specs.Board.{ComesAfter, IsNextAfter, is_unfinished, lent_to, mark_at};
+ghost use Rattle.unit_table.specs.Board.{ComesAfter, IsNextAfter, is_unfinished, lent_to, mark_at, piece_at};
 ghost use Rattle.unit_table.specs.Piece.{says_finished};
 ghost use Rattle.value_core.specs.declared.ticket.Ticket.{Ticket as Numbered};
 ghost use Rattle.value_core.specs.Named.{Name as Called};
@@ -94,8 +98,8 @@ fn end_reached(kept: &Kept, alloc: Global, passed: &Option<Name>) -> Result<Opti
     }
 }
 
-/// The first piece behind those that were passed takes a step, where that is in turn; else it is passed. It answers which is
-/// passed then.
+/// One step: of the first unit that is not finished, or where each is finished, of the first actor that has mail; or one more piece is
+/// passed on the way to that unit. It answers which is passed then.
 fn settle_next(
     kept: &mut Kept,
     alloc: Global,
@@ -108,8 +112,64 @@ fn settle_next(
     ensures goes { GoesOn (shared_of kept.old) (shared_of kept.new) }
     ensures walked { IfOk result (IsWalkedOr (shared_of kept.new)) }
 {
+    if kept.units.open_unit().is_none() {
+        return begin_turn(kept, alloc);
+    }
     match next_piece(&kept.units, alloc, &passed)? {
         Some(name) => settle_or_pass(kept, alloc, name, passed),
+        None => Ok(None),
+    }
+}
+
+/// Where each unit is finished, the turn begins of the first actor in after-order that has mail, on a message of the first of its
+/// senders. All but that turn is passed then. Where nobody has mail, nothing is.
+fn begin_turn(kept: &mut Kept, alloc: Global) -> Result<Option<Name>, AllocError>
+    requires stands { Stands (shared_of kept.old) }
+    requires marks { HasMarks (shared_of kept.old) }
+    requires going { kept.old.end ≡ None }
+    requires level { IsLevel (shared_of kept.old) }
+    requires finished { AreFinished kept.old.units }
+    ensures goes { GoesOn (shared_of kept.old) (shared_of kept.new) }
+    ensures walked { IfOk result (IsWalkedOr (shared_of kept.new)) }
+{
+    match kept.mails.first_with_mail(alloc)? {
+        Some(name) => begin_turn_of(kept, alloc, &name),
+        None => Ok(None),
+    }
+}
+
+/// The turn begins of that actor, which is the first in after-order that has mail.
+fn begin_turn_of(kept: &mut Kept, alloc: Global, name: &Name) -> Result<Option<Name>, AllocError>
+    requires stands { Stands (shared_of kept.old) }
+    requires marks { HasMarks (shared_of kept.old) }
+    requires going { kept.old.end ≡ None }
+    requires level { IsLevel (shared_of kept.old) }
+    requires finished { AreFinished kept.old.units }
+    requires mailed { IsFirstWithMail (held kept.old.mails) name.now }
+    ensures goes { GoesOn (shared_of kept.old) (shared_of kept.new) }
+    ensures walked { IfOk result (IsWalkedOr (shared_of kept.new)) }
+{
+    let left = before_made(&kept.units, alloc, name)?;
+    sort_mail(kept, name);
+    settle_due(kept, alloc, name, left)
+}
+
+/// The mail of the actor is sorted by sender.
+fn sort_mail(kept: &mut Kept, name: &Name)
+    ensures { IsSorted name.now (shared_of kept.old) (shared_of kept.new) }
+{
+    kept.mails.sort(name);
+}
+
+/// A name that comes right before what the piece makes next, where it is a unit or an actor.
+fn before_made(units: &Units, alloc: Global, name: &Name) -> Result<Option<Name>, AllocError>
+    ensures { IfOk result (λ left. IsMadeBehind units.now name.now left) }
+{
+    match number_at(units, name) {
+        Some(number) => {
+            let made = name.child(alloc, number)?;
+            Ok(Some(made.child(alloc, 0)?))
+        }
         None => Ok(None),
     }
 }
@@ -130,30 +190,31 @@ fn settle_or_pass(
     ensures walked { IfOk result (IsWalkedOr (shared_of kept.new)) }
 {
     if is_due(&kept.units, &name) {
-        settle_due(kept, alloc, &name, passed)
+        let left = left_of(&kept.units, alloc, &name, passed)?;
+        settle_due(kept, alloc, &name, left)
     } else {
         Ok(Some(name))
     }
 }
 
-/// The piece, whose step is in turn, takes it. What was passed is passed still, unless the piece waits, or makes something that comes
-/// before that.
+/// The piece, which is the first that is not finished, or where each unit is finished the first actor that has mail, takes its step. What
+/// is given is passed then, before which nothing that the piece makes comes; unless the piece waits.
 fn settle_due(
     kept: &mut Kept,
     alloc: Global,
     name: &Name,
-    passed: Option<Name>,
+    left: Option<Name>,
 ) -> Result<Option<Name>, AllocError>
     requires stands { Stands (shared_of kept.old) }
     requires marks { HasMarks (shared_of kept.old) }
     requires going { kept.old.end ≡ None }
-    requires walked { IsWalked (shared_of kept.old) passed }
-    requires next { IsNextAfter kept.old.units passed name.now }
-    requires due { IsDue kept.old.units name.now }
+    requires walked { IsWalked (shared_of kept.old) left }
+    requires first { IsUpToOpen kept.old.units name.now }
+    requires due { IsDue (shared_of kept.old) name.now }
+    requires made { IsMadeBehind kept.old.units name.now left }
     ensures goes { GoesOn (shared_of kept.old) (shared_of kept.new) }
     ensures walked { IfOk result (IsWalkedOr (shared_of kept.new)) }
 {
-    let left = left_of(&kept.units, alloc, name, passed)?;
     let machine = copy_machine(kept, alloc, name)?;
     let given = give_to(kept, alloc, name, machine, None)?;
     if waits(given) { Ok(None) } else { Ok(left) }
@@ -181,17 +242,16 @@ fn clear_attempts(attempts: &mut BTreeMap<Name, Tree>, store: &mut Store, alloc:
     prune(attempts, store, Vec::new(alloc));
 }
 
-/// Whether a step of the piece is in turn, where it is the first that is not passed: a unit or a task that is not finished, or an actor
-/// that can begin a turn, where each unit is finished. It takes no memory.
+/// Whether a step of the piece is in turn, where it is the first that is not passed: it is a unit or a task that is not finished. It
+/// takes no memory.
 fn is_due(units: &Units, name: &Name) -> bool
-    ensures due { result ≡ true → IsDue units.now name.now }
+    ensures due { result ≡ true → IsOpenPiece (piece_at units.now name.now) }
     ensures passed { result ≡ false → is_unfinished units.now name.now ≡ false }
 {
     match units.piece(name) {
         Some(Piece::Unit(unit)) => !is_finished(&unit.mark),
         Some(Piece::Task(mark)) => !is_finished(mark),
-        Some(Piece::Actor(actor)) => is_ready(&actor.mark) && units.open_unit().is_none(),
-        None => false,
+        Some(Piece::Actor(_)) | None => false,
     }
 }
 
@@ -205,12 +265,7 @@ fn is_finished(mark: &Mark) -> bool
     }
 }
 
-/// Whether something can be done with a piece of that mark.
-fn is_ready(mark: &Mark) -> bool {
-    work_in(mark).is_some()
-}
-
-/// What was passed, where what the piece makes next comes behind it; else nothing is.
+/// What was passed, where what the piece makes next comes behind it; else a name that comes right before that.
 fn left_of(
     units: &Units,
     alloc: Global,
@@ -222,7 +277,7 @@ fn left_of(
     match number_at(units, name) {
         Some(number) => {
             let made = name.child(alloc, number)?;
-            Ok(before(passed, &made))
+            Ok(before(passed, alloc, &made)?)
         }
         None => Ok(passed),
     }
@@ -239,26 +294,26 @@ fn number_at(units: &Units, name: &Name) -> Option<u32>
     }
 }
 
-/// The name that was passed, where it comes before the other one.
-fn before(passed: Option<Name>, made: &Name) -> Option<Name>
-    ensures made { ComesAfter result made.now }
-    ensures behind { (name : Called) → ComesAfter passed name → ComesAfter result name }
+/// The name that was passed, where it comes before the other one; else one that comes right before that.
+fn before(passed: Option<Name>, alloc: Global, made: &Name) -> Result<Option<Name>, AllocError>
+    ensures made { IfOk result (λ left. ComesAfter left made.now) }
+    ensures behind { IfOk result (λ left. (name : Called) → ComesAfter passed name → ComesAfter left name) }
 {
     match passed {
-        Some(name) => before_name(name, made),
-        None => None,
+        Some(name) => Ok(Some(before_name(name, alloc, made)?)),
+        None => Ok(None),
     }
 }
 
-/// The name, where it comes before the other one.
-fn before_name(name: Name, made: &Name) -> Option<Name>
-    ensures made { ComesAfter result made.now }
-    ensures behind { (other : Called) → ComesAfter (Some name) other → ComesAfter result other }
+/// The name, where it comes before the other one; else one that comes right before that.
+fn before_name(name: Name, alloc: Global, made: &Name) -> Result<Name, AllocError>
+    ensures made { IfOk result (λ left. ComesAfter (Some left) made.now) }
+    ensures behind { IfOk result (λ left. (other : Called) → ComesAfter (Some name) other → ComesAfter (Some left) other) }
 {
     if name.cmp_after(made).is_lt() {
-        Some(name)
+        Ok(name)
     } else {
-        None
+        Ok(made.child(alloc, 0)?)
     }
 }
 
