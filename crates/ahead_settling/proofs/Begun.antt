@@ -1,5 +1,6 @@
 -- Turns whose begin is settled.
-use Rattle.std.proofs.Common.{◌≡◌, ◌∙◌, ◌==◌, ◌++◌, ◌∷◌, ◌||◌, [], ℕ, Bool, true, false, cond, List, refl, sym, ap, subst, suc}
+use Rattle.std.proofs.Common.{◌≡◌, arith, ◌∙◌, ◌==◌, ◌++◌, ◌∷◌, ◌||◌, [], ℕ, Bool, true, false, cond, List, refl, sym, ap, subst, suc}
+use Rattle.std.proofs.lemmas.Bool.Decides.{nat_tests}
 use Rattle.std.specs.Option.{IfSome, IsSome, option_and_then, option_map}
 use Rattle.std.specs.Prelude.{Err, IfOk, None, Ok, OnOk, Option, Result, Some, is_some}
 use Rattle.std.specs.declared.alloc.AllocError.{AllocError}
@@ -108,6 +109,10 @@ begun-so old new u a busy board taken units after entry still found opened marke
         let is_left : HasLeft base u (record h { takes = None }) (Take a t.message.sender) new found = left-from base after u (record h { takes = None }) still (Take a t.message.sender) new found (left h leading) leaves_base in
         left-settles base new u x x (record h { takes = None }) (Take a t.message.sender) found is_left (unit-apart old.board board a _ u x (apart-from old.board a u x (Some (piece.Actor at.actor)) there at.there refl) there put_at) refl
         (leads.unfinished old opened.stands opened.going u x there h leading) (opened.stands.machines u x there)
+
+-- a number is found to be the one that it is
+pub same-number : (m n : ℕ) → m ≡ n → (m == n) ≡ true
+same-number m n same = grind (arith, nat_tests)
 
 -- the limit allows no unit more
 pub begin-full : (old mid new : Shared) (u a : Name) (entry told : Entry) (busy : ActorState) (found : Given) → mid ≡ old → AreMarked old → IsTakeEntry old.taken a entry → IsNextTurn old.board u a busy → told ≡ entry → (old.made == old.setup.limits.units) ≡ true

@@ -1,5 +1,5 @@
 -- Claims that are given out, and claims that end.
-use Rattle.std.proofs.Common.{◌≡◌, ◌∙◌, Bool, true, false, cond, refl, sym, ap, ap₂, subst}
+use Rattle.std.proofs.Common.{◌≡◌, ◌∙◌, Bool, true, false, cond, refl, sym, ap, ap₂, subst, true≢false}
 use Rattle.std.specs.Option.{option_and_then}
 use Rattle.std.specs.Prelude.{IfNone, IfSome, None, Option, Some, ◌&&◌, if◌then◌else◌}
 use Rattle.core_syntax.specs.Table.{Table}
@@ -70,6 +70,15 @@ some-same x y e = cc
 pub and-left : (a b : Bool) → (a && b) ≡ true → a ≡ true
 and-left true b is = refl
 and-left false b is = is
+
+and-right : (a b : Bool) → (a && b) ≡ true → b ≡ true
+and-right true b is = is
+and-right false b is = absurd (true≢false (sym is))
+
+-- where a piece is ready its mark says so
+pub ready-marks : (s : Shared) (name : Name) → ready s name ≡ true → marks_ready (piece_at s.board name) ≡ true
+ready-marks s name is =
+    and-left (marks_ready (piece_at s.board name)) (is_free (lent_at s.board name)) (and-right (is_going s.end) (is_ready s.board name) is)
 
 -- where a piece is ready the run goes on
 pub ready-goes : (s : Shared) (name : Name) → ready s name ≡ true → is_going s.end ≡ true

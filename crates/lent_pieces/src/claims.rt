@@ -1,12 +1,14 @@
 // Claims that are given out, and claims that end.
 ghost use Rattle.std.specs.Prelude.{◌≡◌, ◌↔◌, IfOk, IsTrue, OnErr, Some, true};
-ghost use Rattle.std.specs.Option.{option_and_then, option_copied};
+ghost use Rattle.std.specs.Option.{option_and_then, option_copied, option_map};
 ghost use Rattle.lent_pieces.specs.Claims.{FindsLive, IsAbandoned, IsClaimOn, IsKeptSo};
 ghost use Rattle.world_steps.specs.Kept.{shared_of, IsSameBut};
 ghost use Rattle.shared_world.specs.Returned.{IsSameMachine};
-ghost use Rattle.shared_world.specs.Shared.{claimed, kept_machine, kept_work, ready, tree_with, work_in};
+ghost use Rattle.shared_world.specs.Shared.{claimed, kept_machine, machine_in, ready, tree_with, work_in};
 ghost use Rattle.shared_world.specs.Stands.{Stands};
 ghost use Rattle.task_fork_join.specs.Attempt.{machine_of};
+ghost use Rattle.unit_table.specs.Board.{marks_ready};
+ghost use Rattle.unit_table.specs.Piece.{mark_in};
 
 use eval_step::Machine;
 use std::alloc::{AllocError, Global};
@@ -23,10 +25,11 @@ pub fn claim_piece(kept: &mut Kept, alloc: Global, name: &Name) -> Result<Claim,
     ensures claim { IfOk result (λ claim. IsClaimOn name.now (shared_of kept.old) claim (shared_of kept.new)) }
     ensures same { OnErr result (IsSameBut (shared_of kept.old) (shared_of kept.new)) }
 {
-    let work = ready_work(kept, name);
+    let found = kept.units.piece(name);
+    let work = ready_work(found);
+    let machine = copied(alloc, machine_in(kept, name, found))?;
     let program = kept.program.clone()?;
     let piece = name.copy(alloc)?;
-    let machine = copy_machine(kept, alloc, name)?;
     let ticket = kept.units.lend(name)?;
     Ok(Claim::new(program, piece, ticket, work, machine))
 }
@@ -87,36 +90,37 @@ pub(crate) fn claimed(kept: &Kept, ticket: Ticket) -> Option<&Name>
 fn is_kept_so(kept: &Kept, name: &Name, work: Work, machine: &Option<Machine>) -> bool
     ensures { IsTrue result ↔ IsKeptSo (shared_of kept.now) name.now work machine.now }
 {
-    is_for(kept, name, work) && is_same(machine_of(kept, name), machine)
+    let piece = kept.units.piece(name);
+    is_for(piece, work) && is_same(machine_in(kept, name, piece), machine)
 }
 
-/// Whether that is what can be done with the piece.
-fn is_for(kept: &Kept, name: &Name, work: Work) -> bool
-    ensures { IsTrue result ↔ (kept_work (shared_of kept.now) name.now ≡ Some work) }
+/// Whether that is what can be done with what was found.
+fn is_for(found: Option<&Piece>, work: Work) -> bool
+    ensures { IsTrue result ↔ (option_and_then work_in (option_map mark_in (option_copied found.entry)) ≡ Some work) }
 {
-    match work_of(kept, name) {
+    match work_of(found) {
         Some(can) => can == work,
         None => false,
     }
 }
 
-/// What can be done with the piece, which is ready.
-fn ready_work(kept: &Kept, name: &Name) -> Work
-    requires { ready (shared_of kept.now) name.now ≡ true }
-    ensures { kept_work (shared_of kept.now) name.now ≡ Some result }
+/// What can be done with what was found, which is ready.
+fn ready_work(found: Option<&Piece>) -> Work
+    requires { marks_ready (option_copied found) ≡ true }
+    ensures { option_and_then work_in (option_map mark_in (option_copied found.entry)) ≡ Some result }
 {
-    match work_of(kept, name) {
+    match work_of(found) {
         Some(work) => work,
         None => unreachable!(),
     }
 }
 
-/// What can be done with the piece, where something can.
-fn work_of(kept: &Kept, name: &Name) -> Option<Work>
-    ensures { result ≡ kept_work (shared_of kept.now) name.now }
+/// What can be done with what was found, where something can.
+fn work_of(found: Option<&Piece>) -> Option<Work>
+    ensures { result ≡ option_and_then work_in (option_map mark_in (option_copied found.entry)) }
 {
-    match kept.units.mark_of(name) {
-        Some(mark) => work_in(mark),
+    match found {
+        Some(piece) => work_in(piece.mark()),
         None => None,
     }
 }
@@ -125,17 +129,24 @@ fn work_of(kept: &Kept, name: &Name) -> Option<Work>
 pub fn copy_machine(kept: &Kept, alloc: Global, name: &Name) -> Result<Option<Machine>, AllocError>
     ensures { IfOk result (λ machine. machine ≡ kept_machine (shared_of kept.now) name.now) }
 {
-    match machine_of(kept, name) {
+    copied(alloc, machine_in(kept, name, kept.units.piece(name)))
+}
+
+/// An equal machine, where there is one.
+fn copied(alloc: Global, machine: Option<&Machine>) -> Result<Option<Machine>, AllocError>
+    ensures { IfOk result (λ copy. copy ≡ option_copied machine.entry) }
+{
+    match machine {
         Some(machine) => Ok(Some(machine.copy(alloc)?)),
         None => Ok(None),
     }
 }
 
-/// The machine of the piece, where it has one.
-fn machine_of<'a>(kept: &'a Kept, name: &Name) -> Option<&'a Machine>
-    ensures { option_copied result ≡ kept_machine (shared_of kept.now) name.now }
+/// The machine of what was found under the name, where it has one.
+fn machine_in<'a>(kept: &'a Kept, name: &Name, found: Option<&'a Piece>) -> Option<&'a Machine>
+    ensures { option_copied result ≡ option_and_then (machine_in (shared_of kept.now) name.now) (option_copied found.entry) }
 {
-    match kept.units.piece(name) {
+    match found {
         Some(Piece::Unit(unit)) => Some(&unit.machine),
         Some(Piece::Task(_)) => task_machine(kept, name),
         Some(Piece::Actor(_)) | None => None,

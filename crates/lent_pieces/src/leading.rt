@@ -56,8 +56,11 @@ pub(crate) fn give_piece(
 
 /// Whether the piece has no machine, and the first message that waits for it is not settled.
 fn begins_ahead(kept: &Kept, name: &Name, machine: &Option<Machine>) -> bool {
+    if machine.is_some() {
+        return false;
+    }
     match kept.mails.front(name) {
-        Some(message) => machine.is_none() && message.depends.is_some(),
+        Some(message) => message.depends.is_some(),
         None => false,
     }
 }

@@ -1,8 +1,8 @@
 // How one thread ends a run.
-ghost use Rattle.std.specs.Prelude.{◌≡◌, [], IfOk, None, OnOk, Some, false, true};
+ghost use Rattle.std.specs.Prelude.{◌≡◌, [], IfOk, MatchOption, None, OnOk, Some, false, true};
 ghost use Rattle.std.specs.Option.{option_and_then};
 ghost use Rattle.actor_mails.specs.Firsts.{IsFirstWithMail};
-ghost use Rattle.actor_mails.specs.Mails.{held};
+ghost use Rattle.actor_mails.specs.Mails.{held, NoMail};
 ghost use Rattle.run_end.specs.Finishing.{AreEnding, GoesOn, IsEnded, IsFinished, IsOverOr, NoneOut, NoneTried};
 ghost use Rattle.run_end.specs.InTurn.{GoesInTurn, IsDue, IsLeft, IsMadeBehind, IsOpenPiece, IsUpToOpen, IsWalked, IsWalkedOr, IsLevel, number_at};
 ghost use Rattle.run_end.specs.Over.{IsOverWith};
@@ -132,7 +132,7 @@ fn begin_turn(kept: &mut Kept, alloc: Global) -> Result<Option<Name>, AllocError
     ensures goes { GoesOn (shared_of kept.old) (shared_of kept.new) }
     ensures walked { IfOk result (IsWalkedOr (shared_of kept.new)) }
 {
-    match kept.mails.first_with_mail(alloc)? {
+    match first_mailed(kept, alloc)? {
         Some(name) => begin_turn_of(kept, alloc, &name),
         None => Ok(None),
     }
@@ -152,6 +152,14 @@ fn begin_turn_of(kept: &mut Kept, alloc: Global, name: &Name) -> Result<Option<N
     let left = before_made(&kept.units, alloc, name)?;
     sort_mail(kept, name);
     settle_due(kept, alloc, name, left)
+}
+
+/// The first actor in after-order that has mail, where one has. What is kept stays.
+fn first_mailed(kept: &mut Kept, alloc: Global) -> Result<Option<Name>, AllocError>
+    ensures same { kept.new ≡ kept.old }
+    ensures first { IfOk result (λ found. MatchOption found (NoMail (held kept.old.mails)) (IsFirstWithMail (held kept.old.mails))) }
+{
+    kept.mails.first_with_mail(alloc)
 }
 
 /// The mail of the actor is sorted by sender.
