@@ -194,6 +194,7 @@ impl World {
     pub fn into_history(self) -> History
         ensures { result.items ≡ self.history }
     {
-        self.kept.history
+        let kept = self.kept;
+        kept.history
     }
 }
