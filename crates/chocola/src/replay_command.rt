@@ -1,4 +1,4 @@
-ghost use Rattle.std.specs.Prelude.{◌≡◌, ◌⊎◌, ◌+◌, None, Some, IfSome, length};
+ghost use Rattle.std.specs.Prelude.{◌≡◌, ◌⊎◌, ◌+◌, None, Some, IfSome, IsSome, length};
 ghost use Rattle.serial_model.specs.Replay.{IsOver};
 ghost use Rattle.serial_machine.specs.Progress.{state_of};
 ghost use Rattle.command_phases.specs.LineWritten.{SaysLine};
@@ -66,7 +66,8 @@ fn agree<K: Sink, E: Sink>(
     out: &mut K,
     err: &mut E,
 ) -> Outcome
-    requires { IfSome (state_of serial) (λ s. IsOver serial.setup s end) }
+    requires replays { IsSome (state_of serial) }
+    requires over { IfSome (state_of serial) (λ s. IsOver serial.setup s end) }
     ensures statuses { IsEnded result.status ⊎ (result.status ≡ exit.no_memory) }
     ensures finished { Finished serial.setup (K.seen out.old) (K.seen out.new) result }
     ensures history { result.history.items ≡ serial.history }
