@@ -17,7 +17,7 @@ use Rattle.command_phases.specs.EndWritten.{EndWritten}
 use Rattle.command_phases.specs.Outcome.{Finished, end_unless_memory}
 use Rattle.chocola.specs.ProgramAnswers.{ProgramAnswers}
 use Rattle.command_phases.specs.Seen.{Seen}
-use Rattle.chocola.proofs.Finishes.{Finished-of, none_counted, over_unless, rose, some_unless, status_unless, wrote_whole}
+use Rattle.serial_commands.proofs.Finishes.{Finished-of, none_counted, over_unless, rose, some_unless, status_unless, wrote_whole}
 use Rattle.chocola.proofs.Tracing.{KeepsTrace-of}
 
 module _ (program : Table) (limits : Budget) (trace : Option (List ℕ)) (before after : Seen) (outcome : Outcome) (end : End) where

@@ -1,17 +1,9 @@
-pub mod Answered
 pub mod Answering
-pub mod Checking
 pub mod DrivenWorlds
 pub mod Ended
-pub mod Finishes
-pub mod Making
-pub mod Replaying
 pub mod ScheduleRuns
 pub mod Stopped
 pub mod Stressing
-pub mod Stuck
 pub mod Tracing
-pub mod UnitsMade
-pub mod Unreplayed
 pub mod Unscheduled
 pub mod WithoutMemory

@@ -6,12 +6,12 @@ use Rattle.world_io.specs.Seen.{FilesSeen, SinkSeen}
 use Rattle.command_phases.specs.declared.outcome.Outcome.{Outcome}
 use Rattle.command_phases.specs.declared.outcome.Detail.TheVariants.{Nothing}
 use Rattle.chocola.specs.Answers.{Answers}
-use Rattle.chocola.specs.CheckAnswers.{CheckAnswers}
+use Rattle.serial_commands.specs.CheckAnswers.{CheckAnswers}
 use Rattle.command_phases.specs.LineWritten.{SaysLine}
 use Rattle.command_phases.specs.Lines.{memory_line}
 use Rattle.command_phases.specs.Outcome.{IsEnded, IsWithoutRun, IsIdle}
-use Rattle.chocola.specs.MakeAnswers.{MakeAnswers}
-use Rattle.chocola.specs.ReplayAnswers.{IsReplayed, ReplayAnswers}
+use Rattle.serial_commands.specs.MakeAnswers.{MakeAnswers}
+use Rattle.serial_commands.specs.ReplayAnswers.{IsReplayed, ReplayAnswers}
 use Rattle.chocola.specs.RunAnswers.{RunAnswers}
 use Rattle.chocola.specs.ScheduleAnswers.{ScheduleAnswers}
 use Rattle.command_phases.specs.Seen.{Seen, seen, IsUntouched}
@@ -19,7 +19,7 @@ use Rattle.command_phases.specs.SourceAnswers.{ReadsSource, Says}
 use Rattle.command_phases.specs.Unrun.{IsUnrun}
 use Rattle.command_phases.proofs.Statuses.{six_not_ended}
 use Rattle.chocola.specs.StressAnswers.{StressAnswers}
-use Rattle.chocola.proofs.Making.{make_without_memory}
+use Rattle.serial_commands.proofs.Making.{make_without_memory}
 use Rattle.chocola.proofs.Stressing.{stress_without_memory}
 use Rattle.chocola.proofs.Tracing.{KeepsTrace-none}
 

@@ -4,11 +4,11 @@ use Rattle.command_words.specs.Said.{command_of}
 use Rattle.command_words.specs.declared.command.Command.TheVariants as said
 use Rattle.serial_model.specs.Limits.{Budget}
 use Rattle.command_phases.specs.declared.outcome.Outcome.{Outcome}
-use Rattle.chocola.specs.CheckAnswers.{CheckAnswers}
-use Rattle.chocola.specs.MakeAnswers.{MakeAnswers}
+use Rattle.serial_commands.specs.CheckAnswers.{CheckAnswers}
+use Rattle.serial_commands.specs.MakeAnswers.{MakeAnswers}
 use Rattle.chocola.specs.NoAnswers.{NoCommand}
 use Rattle.command_phases.specs.Outcome.{IsStatus}
-use Rattle.chocola.specs.ReplayAnswers.{ReplayAnswers}
+use Rattle.serial_commands.specs.ReplayAnswers.{ReplayAnswers}
 use Rattle.chocola.specs.RunAnswers.{RunAnswers}
 use Rattle.chocola.specs.ScheduleAnswers.{ScheduleAnswers}
 use Rattle.chocola.specs.StressAnswers.{StressAnswers}

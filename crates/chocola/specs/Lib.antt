@@ -1,13 +1,7 @@
 pub mod Answers
-pub mod CheckAnswers
 pub mod Driven
-pub mod MakeAnswers
 pub mod NoAnswers
-pub mod Outside
 pub mod ProgramAnswers
-pub mod ReplayAnswers
-pub mod ReplayWritten
-pub mod Replayed
 pub mod RunAnswers
 pub mod ScheduleAnswers
 pub mod StressAnswers

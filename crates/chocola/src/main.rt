@@ -1,12 +1,7 @@
 //! The program: it reads the words of its command line, does what they say, and ends with the status of the outcome.
 #![tactic(auto)]
 
-mod check_command;
-mod make_command;
 mod opening;
-mod outside;
-mod replay;
-mod replay_command;
 mod run_command;
 mod schedule_command;
 mod stress_command;

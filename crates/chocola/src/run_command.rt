@@ -3,17 +3,17 @@ ghost use Rattle.shared_run.specs.declared.ending.Ended.{Ended as Ending};
 ghost use Rattle.command_phases.specs.Lines.{end_line};
 ghost use Rattle.command_phases.specs.SaysOutcome.{SaysOutcome};
 ghost use Rattle.command_phases.specs.Seen.{IsLater};
-ghost use Rattle.chocola.specs.Outside.{seen_before, seen_after};
+ghost use Rattle.serial_commands.specs.Outside.{seen_before, seen_after};
 ghost use Rattle.chocola.specs.ProgramAnswers.{ProgramAnswers};
 ghost use Rattle.chocola.specs.RunAnswers.{RunAnswers};
 
 use crate::opening::opened;
-use crate::outside::Outside;
 use command_phases::{
     Outcome, Ran, end_line, end_run, load_program, out_of_memory, stopped_after, without_program,
 };
 use core_syntax::Program;
 use interleave_core::World;
+use serial_commands::Outside;
 use serial_model::{End, Limits, Trace};
 use shared_run::{Ended, SharedRun, run_shared};
 use std::alloc::Global;

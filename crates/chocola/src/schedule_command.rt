@@ -8,12 +8,11 @@ ghost use Rattle.command_phases.specs.Outcome.{IsEnded};
 ghost use Rattle.command_phases.specs.SaysOutcome.{SaysOutcome};
 ghost use Rattle.command_phases.specs.Seen.{IsLater};
 ghost use Rattle.chocola.specs.Driven.{IsDrivenOn};
-ghost use Rattle.chocola.specs.Outside.{seen_before, seen_after};
+ghost use Rattle.serial_commands.specs.Outside.{seen_before, seen_after};
 ghost use Rattle.chocola.specs.ProgramAnswers.{ProgramAnswers};
 ghost use Rattle.chocola.specs.ScheduleAnswers.{Reports, ScheduleAnswers};
 
 use crate::opening::opened;
-use crate::outside::Outside;
 use command_phases::{
     Outcome, Part, Ran, Scheduled, end_line, end_run, load_schedule, out_of_memory, stopped_after,
     without_pair,
@@ -22,6 +21,7 @@ use core_syntax::Program;
 use interleave_core::World;
 use schedule_drive::drive;
 use schedule_text::Lines;
+use serial_commands::Outside;
 use serial_model::{End, Limits, Trace};
 use std::alloc::Global;
 use value_core::Text;

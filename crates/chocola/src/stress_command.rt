@@ -1,11 +1,11 @@
 ghost use Rattle.command_phases.specs.Seen.{IsLater};
-ghost use Rattle.chocola.specs.Outside.{seen_before, seen_after};
+ghost use Rattle.serial_commands.specs.Outside.{seen_before, seen_after};
 ghost use Rattle.chocola.specs.StressAnswers.{StressAnswers};
 
-use crate::outside::Outside;
 use crate::run_command::run_program;
 use command_phases::{Outcome, out_of_memory, program_in, without_program};
 use program_maker::make;
+use serial_commands::Outside;
 use serial_model::Limits;
 use std::alloc::Global;
 use std::sync::Wait;

@@ -3,15 +3,12 @@ ghost use Rattle.std.specs.String.{string_bytes};
 ghost use Rattle.chocola.specs.Answers.{Answers};
 ghost use Rattle.command_phases.specs.Seen.{seen};
 
-use crate::check_command::check_file;
-use crate::make_command::make_program;
-use crate::outside::Outside;
-use crate::replay_command::replay_file;
 use crate::run_command::run_file;
 use crate::schedule_command::schedule_file;
 use crate::stress_command::stress_program;
 use command_phases::{Detail, Outcome, USAGE, out_of_memory, say_usage};
 use command_words::{Command, WordsNo, read_words};
+use serial_commands::{Outside, check_file, make_program, replay_file};
 use std::alloc::Global;
 use std::sync::Wait;
 use std::thread::Threads;

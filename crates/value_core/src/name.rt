@@ -1,4 +1,4 @@
-ghost use Rattle.std.specs.Prelude.{◌≡◌, ◌<◌, ◌^◌, ℕ, List, [], ◌∷◌, ◌++◌, IfOk, IfErr, IfSome, IfNone, IsNone, OnOk, ◌≢◌, position, drop, ◌+◌, All, length, min, decimal};
+ghost use Rattle.std.specs.Prelude.{◌≡◌, ◌<◌, ◌^◌, ◌↔◌, IsTrue, ℕ, List, [], ◌∷◌, ◌++◌, IfOk, IfErr, IfSome, IfNone, IsNone, OnOk, ◌≢◌, position, drop, ◌+◌, All, length, min, decimal};
 ghost use Rattle.value_core.specs.NameText.{is_dot, read_on, WritesNumber};
 ghost use Rattle.value_core.specs.Numbers.{numbers_in};
 ghost use Rattle.value_core.specs.Name.{after_cmp, name_text, IsTextOf};
@@ -78,6 +78,14 @@ impl Name {
         ensures { result ≡ after_cmp self.now other.now }
     {
         self.numbers.cmp_after(&other.numbers)
+    }
+
+    /// Whether the two are the same name. It takes no memory.
+    #[inline]
+    pub fn equal(&self, other: &Name) -> bool
+        ensures { IsTrue result ↔ (self.now ≡ other.now) }
+    {
+        self.cmp_after(other).is_eq()
     }
 
     /// The name that these bytes write: numbers in decimal without leading zeros, below 2 ^ 32, with dots between them.

@@ -78,9 +78,9 @@ impl Value {
             (Value::Kw(a), Value::Kw(b)) => a.items() == b.items(),
             (Value::Vector(a), Value::Vector(b)) => equal_items(a, b),
             (Value::Map(a), Value::Map(b)) => equal_pairs(a, b),
-            (Value::Ref(a), Value::Ref(b)) => a.parts() == b.parts(),
-            (Value::Actor(a), Value::Actor(b)) => a.parts() == b.parts(),
-            (Value::Future(a), Value::Future(b)) => a.parts() == b.parts(),
+            (Value::Ref(a), Value::Ref(b)) => a.equal(b),
+            (Value::Actor(a), Value::Actor(b)) => a.equal(b),
+            (Value::Future(a), Value::Future(b)) => a.equal(b),
             _ => false,
         }
     }

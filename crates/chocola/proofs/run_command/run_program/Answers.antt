@@ -1,7 +1,8 @@
 use Rattle.std.proofs.Common.{refl}
 use Rattle.chocola.proofs.DrivenWorlds.{opening_setup}
-use Rattle.chocola.proofs.Finishes.{Finished-unbegun}
-use Rattle.chocola.proofs.Stopped.{ProgramAnswers-stopped, SaysOutcome-stopped}
+use Rattle.serial_commands.proofs.Finishes.{Finished-unbegun}
+use Rattle.serial_commands.proofs.Stopped.{SaysOutcome-stopped}
+use Rattle.chocola.proofs.Stopped.{ProgramAnswers-stopped}
 use Rattle.chocola.proofs.run_command.run_program.Goals as goal
 
 pub run_world-requires-clause-setup : goal.run_world-requires-clause-setup

@@ -7,8 +7,9 @@ use Rattle.command_phases.specs.Outcome.{Finished}
 use Rattle.command_phases.proofs.Said.{SaysOutcome-unreported}
 use Rattle.chocola.proofs.DrivenWorlds.{has_bytes, has_state, over_state}
 use Rattle.chocola.proofs.Ended.{ProgramAnswers-of}
-use Rattle.chocola.proofs.Finishes.{Finished-cut}
-use Rattle.chocola.proofs.Stopped.{ProgramAnswers-stopped, SaysOutcome-stopped}
+use Rattle.serial_commands.proofs.Finishes.{Finished-cut}
+use Rattle.serial_commands.proofs.Stopped.{SaysOutcome-stopped}
+use Rattle.chocola.proofs.Stopped.{ProgramAnswers-stopped}
 use Rattle.chocola.proofs.run_command.run_world.Goals as goal
 
 pub returns-in_default-clause-answers : goal.returns-in_default-clause-answers

@@ -1,8 +1,9 @@
 use Rattle.std.proofs.Common.{refl, subst}
 use Rattle.command_phases.specs.Outcome.{IsEnded}
 use Rattle.command_phases.proofs.Statuses.{six_not_ended}
-use Rattle.chocola.proofs.Finishes.{Finished-unbegun}
-use Rattle.chocola.proofs.Stopped.{ProgramAnswers-stopped, SaysOutcome-stopped}
+use Rattle.serial_commands.proofs.Finishes.{Finished-unbegun}
+use Rattle.serial_commands.proofs.Stopped.{SaysOutcome-stopped}
+use Rattle.chocola.proofs.Stopped.{ProgramAnswers-stopped}
 use Rattle.chocola.proofs.schedule_command.run_given.Goals as goal
 
 pub returns-in-Ok-clause-reports : goal.returns-in-Ok-clause-reports

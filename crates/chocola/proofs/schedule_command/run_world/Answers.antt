@@ -5,8 +5,9 @@ use Rattle.command_phases.specs.Outcome.{Finished, IsEnded}
 use Rattle.command_phases.proofs.Statuses.{six_not_ended}
 use Rattle.chocola.proofs.DrivenWorlds.{has_bytes, has_state, opening_setup, over_state, report_of}
 use Rattle.chocola.proofs.Ended.{ProgramAnswers-of}
-use Rattle.chocola.proofs.Finishes.{Finished-stopped}
-use Rattle.chocola.proofs.Stopped.{ProgramAnswers-stopped, SaysOutcome-stopped}
+use Rattle.serial_commands.proofs.Finishes.{Finished-stopped}
+use Rattle.serial_commands.proofs.Stopped.{SaysOutcome-stopped}
+use Rattle.chocola.proofs.Stopped.{ProgramAnswers-stopped}
 use Rattle.chocola.proofs.schedule_command.run_world.Goals as goal
 
 pub returns-in_default-clause-answers : goal.returns-in_default-clause-answers

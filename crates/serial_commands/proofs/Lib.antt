@@ -1,0 +1,9 @@
+pub mod Answered
+pub mod Checking
+pub mod Finishes
+pub mod Making
+pub mod Replaying
+pub mod Stopped
+pub mod Stuck
+pub mod UnitsMade
+pub mod Unreplayed
