@@ -87,7 +87,7 @@ content_again (b ∷ text) at rest =
     let others = content_again text (after at (escaped b)) rest in
     rw (append_assoc (escaped b) tail rest, after-append at (escaped b) tail) (Content.more first others)
 
-quoted_again : (text : List ℕ) → Reading (quoted text) (AtomKind (Str text))
+pub quoted_again : (text : List ℕ) → Reading (quoted text) (AtomKind (Str text))
 quoted_again text at rest ends =
     let inner = flat_map escaped text in
     let whole : ReadsAs (cursor at (34 ∷ inner ++ 34 ∷ rest)) (AtomKind (Str text)) rest = record {
@@ -135,7 +135,7 @@ signed_integer (negsuc n) fits =
     let d = decimal_is_IsNumeral (suc n) small in
     minus_integer (decimal (suc n)) n d.0 d.1 (decimal_short (suc n) small) fits
 
-int_again : (n : ℤ) → FitsSigned w64 n → Reading (signed_decimal n) (AtomKind (Int n))
+pub int_again : (n : ℤ) → FitsSigned w64 n → Reading (signed_decimal n) (AtomKind (Int n))
 int_again n fits at rest ends =
     let word = signed_decimal n in
     let i = signed_integer n fits in
@@ -187,7 +187,7 @@ symbol_lead name {c} {d} n other rest ends =
     let whole : lead_of (f.byte ∷ (f.bytes ++ d.rest)) ≡ Other = rw f.whole at before in
     rw f.whole (lead_front f.byte f.bytes rest d.rest ends n.word.ends ∙ whole)
 
-symbol_again : (name : List ℕ) {c d : Cursor} → IsName c name d → lead_of c.rest ≡ Other → Reading name (AtomKind (named name))
+pub symbol_again : (name : List ℕ) {c d : Cursor} → IsName c name d → lead_of c.rest ≡ Other → Reading name (AtomKind (named name))
 symbol_again name n other at rest ends =
     record { behind = after at name; is = rw (symbol_lead name n other rest ends) (Begins.symbol name (name_again name n at rest ends)) }
 

@@ -59,17 +59,17 @@ no_white (b ∷ bs) h = by (is_white_space b) refl where
   by false e = e
 
 -- a form's text, before others, spells a form that is the same, places aside
-record Again (k : ℕ) (form : Form) (at : Spot) (rest : List ℕ) : Type 0 where
-  again : Form
-  behind : Spot
-  is : IsForm k (cursor at (form_text form ++ rest)) again (cursor behind rest)
-  same : without_places again ≡ without_places form
-  first : begins is_white_space (form_text form ++ rest) ≡ false
+pub record Again (k : ℕ) (form : Form) (at : Spot) (rest : List ℕ) : Type 0 where
+  pub again : Form
+  pub behind : Spot
+  pub is : IsForm k (cursor at (form_text form ++ rest)) again (cursor behind rest)
+  pub same : without_places again ≡ without_places form
+  pub first : begins is_white_space (form_text form ++ rest) ≡ false
 
 here : {c d : Cursor} {kind : TokenKind} → Begins (lead_of c.rest) c kind d → IsToken c (record { at = c.at; kind = kind }) d
 here {c} is = record { begin = c; gap = Gap.nothing; at = refl; is = is }
 
-atom_form : (k : ℕ) (at spot : Spot) (a : Atom) (rest : List ℕ) → ReadsAs (cursor spot (kind_text (atom_kind a) ++ rest)) (AtomKind a) rest → Again k (form_at at (atom_kind a)) spot rest
+pub atom_form : (k : ℕ) (at spot : Spot) (a : Atom) (rest : List ℕ) → ReadsAs (cursor spot (kind_text (atom_kind a) ++ rest)) (AtomKind a) rest → Again k (form_at at (atom_kind a)) spot rest
 atom_form k at spot a rest r =
     let text = form_text-at at (atom_kind a) in
     record {
@@ -81,15 +81,15 @@ atom_form k at spot a rest r =
     }
 
 -- brackets
-record Bracket (g : Group) : Type 0 where
-  opens : ℕ
-  closes : ℕ
-  text : (parts : List Form) → kind_text (group_kind g parts) ≡ grouped (opens ∷ []) (closes ∷ []) (map form_text parts)
-  open_lead : (bs : List ℕ) → lead_of (opens ∷ bs) ≡ lead.Open g
-  close_lead : (bs : List ℕ) → lead_of (closes ∷ bs) ≡ lead.Close g
-  no_word : is_word_byte closes ≡ false
+pub record Bracket (g : Group) : Type 0 where
+  pub opens : ℕ
+  pub closes : ℕ
+  pub text : (parts : List Form) → kind_text (group_kind g parts) ≡ grouped (opens ∷ []) (closes ∷ []) (map form_text parts)
+  pub open_lead : (bs : List ℕ) → lead_of (opens ∷ bs) ≡ lead.Open g
+  pub close_lead : (bs : List ℕ) → lead_of (closes ∷ bs) ≡ lead.Close g
+  pub no_word : is_word_byte closes ≡ false
 
-bracket_of : (g : Group) → g ≢ At → Bracket g
+pub bracket_of : (g : Group) → g ≢ At → Bracket g
 bracket_of ListGroup n = record { opens = 40; closes = 41; text = kind_text-List; open_lead = λ bs. refl; close_lead = λ bs. refl; no_word = refl }
 bracket_of Vector n = record { opens = 91; closes = 93; text = kind_text-Vector; open_lead = λ bs. refl; close_lead = λ bs. refl; no_word = refl }
 bracket_of Map n = record { opens = 123; closes = 125; text = kind_text-Map; open_lead = λ bs. refl; close_lead = λ bs. refl; no_word = refl }
@@ -104,13 +104,13 @@ closes_as : (g : Group) (at : Spot) (b : ℕ) (rest : List ℕ) → lead_of (b �
 closes_as g at b rest is = rw is (Begins.closing g (record { byte = b; over = byte_on at b rest }))
 
 -- the parts of a form, with a space before each but the first
-record AgainAll (k : ℕ) (is_first : Bool) (forms : List Form) (at : Spot) (rest : List ℕ) : Type 0 where
-  again : List Form
-  behind : Spot
-  are : AreForms k (cursor at (left_at (codes " ") is_first (map form_text forms) ++ rest)) again (cursor behind rest)
-  same : map without_places again ≡ map without_places forms
+pub record AgainAll (k : ℕ) (is_first : Bool) (forms : List Form) (at : Spot) (rest : List ℕ) : Type 0 where
+  pub again : List Form
+  pub behind : Spot
+  pub are : AreForms k (cursor at (left_at (codes " ") is_first (map form_text forms) ++ rest)) again (cursor behind rest)
+  pub same : map without_places again ≡ map without_places forms
 
-bracket_form : (k : ℕ) (spot : Spot) (g : Group) (parts : List Form) (b : Bracket g) → k < nest_limit → g ≢ At → (at : Spot) (rest : List ℕ)
+pub bracket_form : (k : ℕ) (spot : Spot) (g : Group) (parts : List Form) (b : Bracket g) → k < nest_limit → g ≢ At → (at : Spot) (rest : List ℕ)
     → AgainAll (suc k) true parts (next_spot at b.opens) (b.closes ∷ rest) → Again k (form_at spot (group_kind g parts)) at rest
 bracket_form k spot g parts b below n at rest r =
     let inner = left_at (codes " ") true (map form_text parts) in
@@ -128,7 +128,7 @@ bracket_form k spot g parts b below n at rest r =
       first = rw text (no_white (b.opens ∷ (inner ++ b.closes ∷ rest)) (no_gap opening));
     }
 
-sign_form : (k : ℕ) (spot : Spot) (part : Form) → k < nest_limit → (at : Spot) (rest : List ℕ) → Again (suc k) part (next_spot at 64) rest → Again k (form_at spot (group_kind At (part ∷ []))) at rest
+pub sign_form : (k : ℕ) (spot : Spot) (part : Form) → k < nest_limit → (at : Spot) (rest : List ℕ) → Again (suc k) part (next_spot at 64) rest → Again k (form_at spot (group_kind At (part ∷ []))) at rest
 sign_form k spot part below at rest r =
     let inner = form_text part in
     let opening = opens_as At at 64 (inner ++ rest) refl in
@@ -144,11 +144,11 @@ sign_form k spot part below at rest r =
     }
 
 -- a space or what comes behind the parts ends a word
-ends_word : (forms : List Form) (rest : List ℕ) → begins is_word_byte rest ≡ false → begins is_word_byte (left_at (codes " ") false (map form_text forms) ++ rest) ≡ false
+pub ends_word : (forms : List Form) (rest : List ℕ) → begins is_word_byte rest ≡ false → begins is_word_byte (left_at (codes " ") false (map form_text forms) ++ rest) ≡ false
 ends_word [] rest ends = ends
 ends_word (f ∷ fs) rest ends = refl
 
-more_forms : {k : ℕ} (f : Form) (fs : List Form) (at : Spot) (rest : List ℕ) (r : Again k f at (left_at (codes " ") false (map form_text fs) ++ rest)) → AgainAll k false fs r.behind rest → AgainAll k true (f ∷ fs) at rest
+pub more_forms : {k : ℕ} (f : Form) (fs : List Form) (at : Spot) (rest : List ℕ) (r : Again k f at (left_at (codes " ") false (map form_text fs) ++ rest)) → AgainAll k false fs r.behind rest → AgainAll k true (f ∷ fs) at rest
 more_forms f fs at rest r q =
     let tail = left_at (codes " ") false (map form_text fs) in
     let text : (form_text f ++ tail) ++ rest ≡ form_text f ++ (tail ++ rest) = append_assoc (form_text f) tail rest in
@@ -159,7 +159,7 @@ more_forms f fs at rest r q =
       same = ap (λ x. x ∷ map without_places q.again) r.same ∙ ap (λ x. without_places f ∷ x) q.same;
     }
 
-spaced_forms : {k : ℕ} (f : Form) (fs : List Form) (at : Spot) (rest : List ℕ) (r : Again k f (next_spot at 32) (left_at (codes " ") false (map form_text fs) ++ rest)) → AgainAll k false fs r.behind rest → AgainAll k false (f ∷ fs) at rest
+pub spaced_forms : {k : ℕ} (f : Form) (fs : List Form) (at : Spot) (rest : List ℕ) (r : Again k f (next_spot at 32) (left_at (codes " ") false (map form_text fs) ++ rest)) → AgainAll k false fs r.behind rest → AgainAll k false (f ∷ fs) at rest
 spaced_forms f fs at rest r q =
     let tail = left_at (codes " ") false (map form_text fs) in
     let text : (form_text f ++ tail) ++ rest ≡ form_text f ++ (tail ++ rest) = append_assoc (form_text f) tail rest in
@@ -203,7 +203,7 @@ gap_spells {b} {c} forms g s = by forms s.forms_to s.ends where
   by [] AreForms.none e = record { last = b; forms_to = AreForms.none; ends = record { last = e.last; gap = gap_gap g e.gap; ends = e.ends } }
   by (f ∷ fs) {last} (AreForms.more is rest) e = record { last = last; forms_to = AreForms.more (gap_form g is) rest; ends = e }
 
-more_lines : (f : Form) (fs : List Form) (at : Spot) (r : Again 0 f at (10 ∷ spelling fs)) → Lines fs (next_spot r.behind 10) → Lines (f ∷ fs) at
+pub more_lines : (f : Form) (fs : List Form) (at : Spot) (r : Again 0 f at (10 ∷ spelling fs)) → Lines fs (next_spot r.behind 10) → Lines (f ∷ fs) at
 more_lines f fs at r q =
     let text : spelling (f ∷ fs) ≡ form_text f ++ 10 ∷ spelling fs = append_assoc (form_text f) (10 ∷ []) (spelling fs) in
     let others = gap_spells q.again (white_gap r.behind 10 (spelling fs) refl q.first) q.spells in

@@ -18,7 +18,7 @@ use Rattle.sexpr_reader.proofs.FormFolds.{kind_text-List, kind_text-Vector, kind
 use Rattle.sexpr_reader.proofs.FormTexts.{lines_again}
 use Rattle.sexpr_reader.proofs.Texts.{HasText, ascii_then, token_takes}
 
-abbrev AreTexts : List Form → Type 0
+abbrev pub AreTexts : List Form → Type 0
 AreTexts [] = Unit {0}
 AreTexts (f ∷ fs) = IsUtf8 (form_text f) × AreTexts fs
 
@@ -36,7 +36,7 @@ bracket_text opens closes parts low small h =
     let body = joined (codes " ") (map form_text parts) in
     ascii_then opens (body ++ closes ∷ []) (omega arith) (IsUtf8-append body (closes ∷ []) (joined_text parts h) (ascii_then closes [] (omega arith) IsUtf8-nil))
 
-group_text : (g : Group) (parts : List Form) → AreTexts parts → IsUtf8 (kind_text (group_kind g parts))
+pub group_text : (g : Group) (parts : List Form) → AreTexts parts → IsUtf8 (kind_text (group_kind g parts))
 group_text ListGroup parts h = rw (kind_text-List parts) (bracket_text 40 41 parts (omega arith) (omega arith) h)
 group_text Vector parts h = rw (kind_text-Vector parts) (bracket_text 91 93 parts (omega arith) (omega arith) h)
 group_text Map parts h = rw (kind_text-Map parts) (bracket_text 123 125 parts (omega arith) (omega arith) h)
@@ -71,7 +71,7 @@ mutual
       let q = parts_texts others r.rest in
       record { texts = (r.text, q.texts); rest = q.rest }
 
-lines_text : (forms : List Form) → AreTexts forms → IsUtf8 (spelling forms)
+pub lines_text : (forms : List Form) → AreTexts forms → IsUtf8 (spelling forms)
 lines_text [] h = IsUtf8-nil
 lines_text (f ∷ fs) h =
     IsUtf8-append (form_text f ++ 10 ∷ []) (spelling fs) (IsUtf8-append (form_text f) (10 ∷ []) h.0 (ascii_then 10 [] (omega arith) IsUtf8-nil)) (lines_text fs h.1)
