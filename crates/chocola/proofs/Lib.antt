@@ -3,6 +3,7 @@ pub mod DrivenWorlds
 pub mod Ended
 pub mod ScheduleRuns
 pub mod Stopped
+pub mod StressSize
 pub mod Stressing
 pub mod Tracing
 pub mod Unscheduled

@@ -1,11 +1,9 @@
 -- From the run of a made program to what is owed to it.
-use Rattle.std.proofs.Common.{◌≡◌, ◌≢◌, ℕ, zero, suc, List, [], ◌∷◌, refl, sym, ◌∙◌, subst, inl, inr, arith}
+use Rattle.std.proofs.Common.{◌≡◌, ◌≤◌, ◌⊎◌, ℕ, zero, suc, List, [], ◌∷◌, refl, sym, ◌∙◌, subst, inl, inr, arith}
 use Rattle.std.specs.Prelude.{Err, None, Some}
 use Rattle.core_syntax.specs.Table.{Table}
 use Rattle.program_maker.specs.MadeText.{made_text}
 use Rattle.serial_model.specs.Limits.{default_budget}
-use Rattle.value_core.specs.Place.{Spot}
-use Rattle.scope_check.specs.declared.error.ScopeKind.{ScopeKind}
 use Rattle.world_io.specs.Held.{told}
 use Rattle.world_io.specs.Seen.{FilesSeen, SinkSeen}
 use Rattle.command_phases.specs.declared.load.LoadNo.{LoadNo}
@@ -14,16 +12,17 @@ use Rattle.command_phases.specs.declared.outcome.Detail.TheVariants.{Nothing}
 use Rattle.command_phases.specs.declared.outcome.Outcome.{Outcome}
 use Rattle.command_phases.specs.LineWritten.{SaysLine}
 use Rattle.command_phases.specs.Lines.{load_line, memory_line}
-use Rattle.command_phases.specs.Load.{GivesText, IsOutOfScope, IsScopeDue, Loads}
-use Rattle.command_phases.specs.Outcome.{IsIdle, load_detail, load_status}
+use Rattle.command_phases.specs.Load.{GivesText, Loads}
+use Rattle.command_phases.specs.Outcome.{IsEnded, IsIdle, IsStatusOfEnd, load_detail, load_status}
 use Rattle.command_phases.specs.Program.{IsProgramOf}
 use Rattle.command_phases.specs.SaysOutcome.{SaysOutcome}
 use Rattle.command_phases.specs.Seen.{Seen, IsCalm, IsUntouched, ReadsWell, seen}
 use Rattle.command_phases.specs.SourceAnswers.{AreThere}
 use Rattle.command_phases.specs.Traced.{KeepsTrace}
 use Rattle.command_phases.specs.Unrun.{IsUnrun}
-use Rattle.command_phases.proofs.Loading.{held_bytes}
-use Rattle.command_phases.proofs.Statuses.{not_three}
+use Rattle.command_phases.proofs.Loading.{error_checks, held_bytes}
+use Rattle.command_phases.proofs.Statuses.{no_run, not_four, not_three}
+use Rattle.made_programs.proofs.MadePrograms.{made_program}
 use Rattle.chocola.specs.ProgramAnswers.{ProgramAnswers}
 use Rattle.chocola.specs.RunAnswers.{IsRun, IsRunOf, RunAnswers}
 use Rattle.chocola.specs.StressAnswers.{StressAnswers}
@@ -60,10 +59,8 @@ module _ (number size : ℕ) (before after : Seen) (outcome : Outcome) where
     finished = run.run.finished;
   }
 
-  scope_of_text : (kind : ScopeKind) (at : Spot) → IsScopeDue (Some (Some text)) kind at → IsOutOfScope text kind at
-  scope_of_text kind at due = subst (λ bytes. IsOutOfScope bytes kind at) (sym (held_bytes (Some (Some text)) text due.bytes is_held due.read)) due.refused
-
-  module _ (untouched : IsUntouched before after) (reads : after.files.read_faults ≡ before.files.read_faults) (answers : RunAnswers [] default_budget None was now outcome) (read : outcome.status ≢ 3) where
+  module _ (untouched : IsUntouched before after) (reads : after.files.read_faults ≡ before.files.read_faults) (answers : RunAnswers [] default_budget None was now outcome)
+      (statuses : IsEnded outcome.status ⊎ (outcome.status ≡ 6)) (complete : IsCalm was now → IsStatusOfEnd outcome ⊎ (outcome.status ≡ 6)) where
     quiet : IsCalm before after → IsCalm was now
     quiet calm = record { reads = reads_well; writes = calm.writes; out = calm.out; err = calm.err }
 
@@ -72,29 +69,19 @@ module _ (number size : ℕ) (before after : Seen) (outcome : Outcome) where
 
     of_run : StressAnswers number size before after outcome
     of_run = record {
-      statuses = elim answers.statuses [
-        | inl ended ↦ inl ended
-        | inr s ↦ elim s [ inl w ↦ elim w [ inl three ↦ absurd (read three) | inr four ↦ inr (inl four) ] | inr six ↦ inr (inr six) ]
-      ];
+      statuses = statuses;
       run = λ ended. run_of_text (answers.run ended);
       ended = answers.ended;
       unless_memory = λ six. elim (answers.unless_memory six) [ inl idle ↦ inl (idle_so idle) | inr run ↦ inr (run_of_text run) ];
-      complete = λ program source calm. answers.complete text program is_held source (quiet calm);
-      must_refuse = λ kind at due. answers.reads.must_refuse text kind at is_held text_there due reads_well;
-      must_refuse_scope = λ kind at due. answers.reads.must_refuse_scope text kind at is_held text_there due reads_well;
-      refused = λ four. elim (answers.refused four) [ inl due ↦ inl due | inr due ↦ inr (due.0, due.1, scope_of_text due.0 due.1 due.2, due.3) ];
-      failed_write = λ failed. elim (answers.reads.failed_write failed) [
-        | inl w ↦ elim w [ inl three ↦ absurd (read three) | inr four ↦ inl four ]
-        | inr rest ↦ inr rest
-      ];
+      complete = λ calm. complete (quiet calm);
+      failed_write = λ failed. elim (answers.reads.failed_write failed) [ inl without ↦ absurd (no_run outcome.status statuses without) | inr rest ↦ rest ];
       not_written = answers.not_written;
       files = untouched;
       reads = reads;
-      idle = λ four. idle_so (answers.idle (inr four));
-      detail = answers.detail;
+      detail = answers.detail (not_four outcome.status statuses);
       says = record {
         unread = answers.says.unread;
-        not_read = λ three. absurd (read three);
+        not_read = λ three. absurd (not_three outcome.status statuses three);
         said = answers.says.said;
         said_at_most = answers.says.said_at_most;
         end_said = answers.says.end_said;
@@ -113,11 +100,10 @@ module _ (number size : ℕ) (before after : Seen) (outcome : Outcome) where
         none_after_a_fault = λ apart. same;
         none_without_memory = λ six. same;
       } in
-      of_run (record { held = kept.0; faults = kept.1 }) answers.reads
-      (run_loaded [] was now outcome program (record { bytes = text; read = refl; source = source }) refl answers.statuses
-      (λ seven six. let none = answers.unfailed seven six in record { out = none.out; err = none.err; files = none.files })
-      default_budget None answers.finished answers.ended keeps answers.not_written answers.detail says)
-      (λ three. not_three outcome.status answers.statuses three)
+      let answered = run_loaded [] was now outcome program (record { bytes = text; read = refl; source = source }) refl answers.statuses
+          (λ seven six. let none = answers.unfailed seven six in record { out = none.out; err = none.err; files = none.files })
+          default_budget None answers.finished answers.ended keeps answers.not_written answers.detail says in
+      of_run (record { held = kept.0; faults = kept.1 }) answers.reads answered answers.statuses (answered.complete text program is_held source)
 
 module _ (number size : ℕ) (files : FilesSeen) (out err err_after : SinkSeen) (outcome : Outcome) where
   abbrev given : FilesSeen
@@ -129,21 +115,18 @@ module _ (number size : ℕ) (files : FilesSeen) (out err err_after : SinkSeen) 
   caused (OutOfScope kind at) h = (record { bytes = made_text number size; read = refl; refused = h }, refl)
   caused Memory h = tt
 
-  never_unread : (error : LoadNo) → GivesText (made_text number size) (Err error) → load_status error ≢ 3
-  never_unread NotRead h = absurd h
-  never_unread (Refused kind at) h = λ e. omega (arith, e)
-  never_unread (OutOfScope kind at) h = λ e. omega (arith, e)
-  never_unread Memory h = λ e. omega (arith, e)
-
-  -- and one that has none
-  pub stress_refused : (error : LoadNo) → GivesText (made_text number size) (Err error) → IsUnrun (load_status error) (load_detail error) outcome → SaysLine (load_line [] error) err err_after
-      → StressAnswers number size (seen files out err) (seen files out err_after) outcome
-  stress_refused error gives unrun line =
+  -- and one that is found to have none, which no made text is
+  pub stress_refused : size ≤ 10000 → (error : LoadNo) → GivesText (made_text number size) (Err error) → IsUnrun (load_status error) (load_detail error) outcome
+      → SaysLine (load_line [] error) err err_after → StressAnswers number size (seen files out err) (seen files out err_after) outcome
+  stress_refused at_most error gives unrun line =
+      let made = made_program number size at_most in
+      let loads = caused error gives in
+      let six = unrun.status ∙ error_checks [] given given (made_text number size) refl error made.0 loads made.1 (λ rose. omega (arith, rose)) in
       let same : IsUntouched (seen given out err) (seen given out err_after) = record { held = refl; faults = refl } in
       of_run number size (seen files out err) (seen files out err_after) outcome (record { held = refl; faults = refl }) refl
-      (run_error [] (seen given out err) (seen given out err_after) outcome error (caused error gives) unrun default_budget None refl same line)
-      (λ three. never_unread error gives (sym unrun.status ∙ three))
+      (run_error [] (seen given out err) (seen given out err_after) outcome error loads unrun default_budget None refl same line)
+      (inr six) (λ calm. inr six)
 
   -- and one for which there is no memory
-  pub stress_without_memory : IsUnrun 6 Nothing outcome → SaysLine memory_line err err_after → StressAnswers number size (seen files out err) (seen files out err_after) outcome
-  stress_without_memory unrun line = stress_refused Memory tt unrun line
+  pub stress_without_memory : size ≤ 10000 → IsUnrun 6 Nothing outcome → SaysLine memory_line err err_after → StressAnswers number size (seen files out err) (seen files out err_after) outcome
+  stress_without_memory at_most unrun line = stress_refused at_most Memory tt unrun line

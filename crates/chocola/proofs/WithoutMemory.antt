@@ -1,6 +1,8 @@
 -- What is owed to the words where there was no memory to read them.
 use Rattle.std.proofs.Common.{◌≡◌, ℕ, List, [], ◌∷◌, refl, subst, inl, inr, arith, le_refl}
-use Rattle.std.specs.Prelude.{Option}
+use Rattle.std.specs.Prelude.{Option, Some}
+use Rattle.command_words.specs.Said.{command_of}
+use Rattle.command_words.specs.declared.command.Command.TheVariants as said
 use Rattle.serial_model.specs.Limits.{Budget}
 use Rattle.world_io.specs.Seen.{FilesSeen, SinkSeen}
 use Rattle.command_phases.specs.declared.outcome.Outcome.{Outcome}
@@ -20,6 +22,7 @@ use Rattle.command_phases.specs.Unrun.{IsUnrun}
 use Rattle.command_phases.proofs.Statuses.{six_not_ended}
 use Rattle.chocola.specs.StressAnswers.{StressAnswers}
 use Rattle.serial_commands.proofs.Making.{make_without_memory}
+use Rattle.chocola.proofs.StressSize.{stress_size}
 use Rattle.chocola.proofs.Stressing.{stress_without_memory}
 use Rattle.chocola.proofs.Tracing.{KeepsTrace-none}
 
@@ -133,8 +136,8 @@ module _ (words : List (List ℕ)) (files : FilesSeen) (out err err2 : SinkSeen)
     says = says (file ∷ []);
   }
 
-  stress : (number size : ℕ) → StressAnswers number size before after outcome
-  stress number size = stress_without_memory number size files out err err2 outcome unrun line
+  stress : (number size workers : ℕ) → command_of words ≡ Some (said.Stress number size workers) → StressAnswers number size before after outcome
+  stress number size workers is = stress_without_memory number size files out err err2 outcome (stress_size words number size workers is) unrun line
 
   make : (number size : ℕ) → MakeAnswers number size before after outcome
   make number size = make_without_memory number size files out err err2 outcome unrun line
@@ -147,7 +150,7 @@ module _ (words : List (List ℕ)) (files : FilesSeen) (out err err2 : SinkSeen)
     replay = λ file trace is. replay file trace;
     check = λ file is. check file;
     make = λ number size is. make number size;
-    stress = λ number size workers is. stress number size;
+    stress = stress;
     no_command = λ is. record { status = inr six; idle = idle; reads = refl; detail = unrun.detail; says = says [] };
     usage = λ two. absurd (omega (arith, six, two));
     no_count_falls = record { reads = le_refl files.read_faults; writes = le_refl files.write_faults; out = le_refl out.faults; err = line.later };

@@ -1,3 +1,4 @@
+ghost use Rattle.std.specs.Prelude.{◌≤◌};
 ghost use Rattle.command_phases.specs.Seen.{IsLater};
 ghost use Rattle.serial_commands.specs.Outside.{seen_before, seen_after};
 ghost use Rattle.chocola.specs.StressAnswers.{StressAnswers};
@@ -31,6 +32,7 @@ pub fn stress_program<
     outside: Outside<'a, F, K, E>,
     gate: &G,
 ) -> Outcome
+    requires made { size ≤ 10000 }
     ensures answers { StressAnswers number size
         (seen_before F.seen K.seen E.seen outside.entry)
         (seen_after F.seen K.seen E.seen outside.exit) result }

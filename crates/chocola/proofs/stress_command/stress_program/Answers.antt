@@ -15,5 +15,5 @@ returns-in-Ok-program_in-clause-answers g c =
 pub returns-clause-answers : goal.returns-clause-answers
 returns-clause-answers g c =
     let is : c.items.result.now ≡ made_text c.args.number c.args.size = cc (c.items.ensures, c.in-Ok.ensures) in
-    stress_refused c.args.number c.args.size _ _ _ _ c.without_program.result c.in-Err.error (subst (λ bytes. GivesText bytes (Err c.in-Err.error)) is c.in-Err.ensures)
+    stress_refused c.args.number c.args.size _ _ _ _ c.without_program.result c.requires.made c.in-Err.error (subst (λ bytes. GivesText bytes (Err c.in-Err.error)) is c.in-Err.ensures)
     c.without_program.ensures.outcome (rw c.new.ensures at c.without_program.ensures.says)

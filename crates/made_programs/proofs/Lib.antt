@@ -1,0 +1,14 @@
+pub mod Assembled
+pub mod CoreTrees
+pub mod ExprTrees
+pub mod Likes
+pub mod MadePrograms
+pub mod MadeSource
+pub mod MadeTrees
+pub mod Placed
+pub mod Planning
+pub mod Scoped
+pub mod Shapes
+pub mod Sugared
+pub mod Topped
+pub mod Trees
