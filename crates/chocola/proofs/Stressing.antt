@@ -101,8 +101,8 @@ module _ (number size : ℕ) (before after : Seen) (outcome : Outcome) where
         none_without_memory = λ six. same;
       } in
       let answered = run_loaded [] was now outcome program (record { bytes = text; read = refl; source = source }) refl answers.statuses
-          (λ seven six. let none = answers.unfailed seven six in record { out = none.out; err = none.err; files = none.files })
-          default_budget None answers.finished answers.ended keeps answers.not_written answers.detail says in
+      (λ seven six. let none = answers.unfailed seven six in record { out = none.out; err = none.err; files = none.files })
+      default_budget None answers.finished answers.ended keeps answers.not_written answers.detail says in
       of_run (record { held = kept.0; faults = kept.1 }) answers.reads answered answers.statuses (answered.complete text program is_held source)
 
 module _ (number size : ℕ) (files : FilesSeen) (out err err_after : SinkSeen) (outcome : Outcome) where
