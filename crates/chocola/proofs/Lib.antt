@@ -1,10 +1,2 @@
-pub mod Answering
-pub mod DrivenWorlds
-pub mod Ended
-pub mod ScheduleRuns
-pub mod Stopped
 pub mod StressSize
-pub mod Stressing
-pub mod Tracing
-pub mod Unscheduled
 pub mod WithoutMemory

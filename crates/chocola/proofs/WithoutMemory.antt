@@ -14,17 +14,17 @@ use Rattle.command_phases.specs.Lines.{memory_line}
 use Rattle.command_phases.specs.Outcome.{IsEnded, IsWithoutRun, IsIdle}
 use Rattle.serial_commands.specs.MakeAnswers.{MakeAnswers}
 use Rattle.serial_commands.specs.ReplayAnswers.{IsReplayed, ReplayAnswers}
-use Rattle.chocola.specs.RunAnswers.{RunAnswers}
-use Rattle.chocola.specs.ScheduleAnswers.{ScheduleAnswers}
+use Rattle.run_command.specs.RunAnswers.{RunAnswers}
+use Rattle.schedule_command.specs.ScheduleAnswers.{ScheduleAnswers}
 use Rattle.command_phases.specs.Seen.{Seen, seen, IsUntouched}
 use Rattle.command_phases.specs.SourceAnswers.{ReadsSource, Says}
 use Rattle.command_phases.specs.Unrun.{IsUnrun}
 use Rattle.command_phases.proofs.Statuses.{six_not_ended}
-use Rattle.chocola.specs.StressAnswers.{StressAnswers}
+use Rattle.stress_command.specs.StressAnswers.{StressAnswers}
 use Rattle.serial_commands.proofs.Making.{make_without_memory}
 use Rattle.chocola.proofs.StressSize.{stress_size}
-use Rattle.chocola.proofs.Stressing.{stress_without_memory}
-use Rattle.chocola.proofs.Tracing.{KeepsTrace-none}
+use Rattle.stress_command.proofs.Stressing.{stress_without_memory}
+use Rattle.run_command.proofs.Tracing.{KeepsTrace-none}
 
 module _ (words : List (List ℕ)) (files : FilesSeen) (out err err2 : SinkSeen) (outcome : Outcome) (unrun : IsUnrun 6 Nothing outcome) (line : SaysLine memory_line err err2) where
   six : outcome.status ≡ 6

@@ -9,9 +9,9 @@ use Rattle.serial_commands.specs.MakeAnswers.{MakeAnswers}
 use Rattle.chocola.specs.NoAnswers.{NoCommand}
 use Rattle.command_phases.specs.Outcome.{IsStatus}
 use Rattle.serial_commands.specs.ReplayAnswers.{ReplayAnswers}
-use Rattle.chocola.specs.RunAnswers.{RunAnswers}
-use Rattle.chocola.specs.ScheduleAnswers.{ScheduleAnswers}
-use Rattle.chocola.specs.StressAnswers.{StressAnswers}
+use Rattle.run_command.specs.RunAnswers.{RunAnswers}
+use Rattle.schedule_command.specs.ScheduleAnswers.{ScheduleAnswers}
+use Rattle.stress_command.specs.StressAnswers.{StressAnswers}
 use Rattle.command_phases.specs.Seen.{Seen, IsLater}
 use Rattle.command_phases.specs.Status as exit
 

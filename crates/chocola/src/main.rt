@@ -1,10 +1,6 @@
 //! The program: it reads the words of its command line, does what they say, and ends with the status of the outcome.
 #![tactic(auto)]
 
-mod opening;
-mod run_command;
-mod schedule_command;
-mod stress_command;
 mod top;
 
 use command_phases::out_of_memory;

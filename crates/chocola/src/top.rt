@@ -3,15 +3,15 @@ ghost use Rattle.std.specs.String.{string_bytes};
 ghost use Rattle.chocola.specs.Answers.{Answers};
 ghost use Rattle.command_phases.specs.Seen.{seen};
 
-use crate::run_command::run_file;
-use crate::schedule_command::schedule_file;
-use crate::stress_command::stress_program;
 use command_phases::{Detail, Outcome, USAGE, out_of_memory, say_usage};
 use command_words::{Command, WordsNo, read_words};
+use run_command::run_file;
+use schedule_command::schedule_file;
 use serial_commands::{Outside, check_file, make_program, replay_file};
 use std::alloc::Global;
 use std::sync::Wait;
 use std::thread::Threads;
+use stress_command::stress_program;
 use worker_gate::Gate;
 use world_io::{Files, Sink};
 

@@ -60,6 +60,7 @@ impl Frame {
         ensures { IfOk result (λ frame. frame ≡ values.now) }
     {
         let mut frame = Frame::new(alloc);
+        frame.reserve(values.len())?;
         for value in values.iter() {
             frame.push(Known::unseen(value.copy(alloc)?))?;
         }
@@ -155,6 +156,21 @@ impl Frame {
             Some(mark) => *mark,
             None => false,
         }
+    }
+
+    // Makes room for so many further values. The values stay.
+    fn reserve(&mut self, more: usize) -> Result<(), AllocError>
+        ensures { self.new ≡ self.old }
+    {
+        self.values.reserve_exact(more)
+    }
+
+    /// Drops all values, and gives their room back.
+    pub fn free(&mut self)
+        ensures { self.new ≡ [] }
+    {
+        let alloc = *self.values.allocator();
+        *self = Frame::new(alloc);
     }
 
     /// Drops all values, and keeps their room.

@@ -73,11 +73,12 @@ impl Registers {
         At::Halted
     }
 
-    /// Stops at the value.
+    /// Stops at the value. The room for arguments is given back, as no machine goes on from there.
     pub fn finish(&mut self) -> At
         ensures { standing result self.new ≡ Halted (Value self.old.value) }
     {
         let value = mem::replace(&mut self.value, Known::nil());
+        self.values.free();
         self.stop = Stop {
             halt: Halt::Value(value.into_value()),
         };

@@ -102,11 +102,11 @@ delivers_item table frame stack rest first v new stands is resumes inside =
     subst P (sym is) (record { same = done.same; there = done.there; small = omega arith })
 
 -- with no item it is the value of the whole
-pub delivers_last : (table : Table) (frame : List Value) (stack : List Item) (v : Value) (new : List Item) → stack ≡ [] → new ≡ []
-    → Delivers table v (record { frame = frame; stack = stack }) (record { frame = frame; stack = new }) (control.Halted (halt.Value v))
+pub delivers_last : (table : Table) (frame left : List Value) (stack : List Item) (v : Value) (new : List Item) → stack ≡ [] → new ≡ []
+    → Delivers table v (record { frame = frame; stack = stack }) (record { frame = left; stack = new }) (control.Halted (halt.Value v))
 unfolding resume
-delivers_last table frame stack v new is no_more inside =
+delivers_last table frame left stack v new is no_more inside =
     let items : All (ItemIn (length table.nodes)) new = subst (All (ItemIn (length table.nodes))) (sym no_more) (All-nil _) in
     let e : length new ≡ 0 = ap length no_more in
-    let Q : List Item → Type 0 = λ s. ComesTo table inside (resume table inside frame s v) (2 * length s + 2) (record { frame = frame; stack = new }) (control.Halted (halt.Value v)) in
+    let Q : List Item → Type 0 = λ s. ComesTo table inside (resume table inside frame s v) (2 * length s + 2) (record { frame = left; stack = new }) (control.Halted (halt.Value v)) in
     subst Q (sym is) (record { same = λ fuel answers. refl; there = record { items = items; here = tt }; small = omega arith })

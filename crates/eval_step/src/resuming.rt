@@ -14,7 +14,8 @@ use std::mem;
 use value_core::Value;
 
 impl Context {
-    /// Does what comes next with the value of the register. With nothing left to do it is the value of the whole.
+    /// Does what comes next with the value of the register. With nothing left to do it is the value of the whole, and the frame's
+    /// room is given back.
     pub fn deliver(
         &mut self,
         program: &Program,
@@ -25,6 +26,7 @@ impl Context {
     {
         let is_there = self.stack.fetch()?;
         if !is_there {
+            self.frame.free();
             return Ok(registers.finish());
         }
         match self.stack.pop() {

@@ -25,5 +25,5 @@ returns-then-not-is_there c =
     let old = c.args.self.now in
     let v = c.args.registers.now.value in
     let empty = c.in_ok-is_there.ensures.none c.if-not-is_there.true in
-    let P : Control → Type 0 = Delivers c.args.program.now v old (record { frame = old.frame; stack = c.fetch.new.self }) in
-    subst P (sym c.finish.ensures) (delivers_last c.args.program.now old.frame old.stack v c.fetch.new.self (sym c.in_ok-is_there.ensures.same ∙ empty) empty)
+    let P : Control → Type 0 = Delivers c.args.program.now v old (record { frame = c.free.new.self; stack = c.fetch.new.self }) in
+    subst P (sym c.finish.ensures) (delivers_last c.args.program.now old.frame c.free.new.self old.stack v c.fetch.new.self (sym c.in_ok-is_there.ensures.same ∙ empty) empty)

@@ -1,0 +1,3 @@
+pub mod DrivenWorlds
+pub mod ScheduleRuns
+pub mod Unscheduled
