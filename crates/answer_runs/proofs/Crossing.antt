@@ -24,3 +24,9 @@ runs_send = search (run_send, run_sync, link_send, link_sync, below_send, fields
 
 pub answers_send : IsSend answers.the_row
 answers_send = search (runs_send, fields) depth 60 fits 20000
+
+runs_sync : IsSync (chain.the_row run.the_row)
+runs_sync = search (run_send, run_sync, link_send, link_sync, below_send, as_row_sync, declared_sync, crosses, sendable) depth 60 fits 20000
+
+pub answers_sync : IsSync answers.the_row
+answers_sync = search (runs_sync, as_row_sync, declared_sync, crosses, sendable) depth 60 fits 20000

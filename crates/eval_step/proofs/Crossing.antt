@@ -2,10 +2,10 @@
 use denote.Param.Send.{IsSend, IsSync, sendable}
 use denote.Param.SendFields.{as_row_sync, declared_sync, variants_sync}
 use Rattle.std.proofs.Crossing.{crosses}
-use Rattle.value_core.proofs.Crossing.{values_send}
 use Rattle.serial_model.proofs.Crossing.{fields}
 use Rattle.eval_frames.proofs.Crossing.{frame_send, frame_sync, registers_send}
 use Rattle.answer_runs.proofs.Crossing.{answers_send}
+use Rattle.captured_values.proofs.Crossing.{captured_send}
 use Rattle.shared_chain.proofs.Crossing.{link_send, link_sync, below_send}
 use Rattle.shared_chain.specs.contracts.chain.Chain as chain
 use Rattle.shared_chain.specs.contracts.chunk.Chunk as chunk
@@ -45,7 +45,7 @@ walk_send : IsSend walk.the_row
 walk_send = search (registers_send, context_send, fields) depth 60 fits 20000
 
 parts_send : IsSend parts.the_row
-parts_send = search (walk_send, values_send, answers_send, fields) depth 60 fits 20000
+parts_send = search (walk_send, captured_send, answers_send, fields) depth 60 fits 20000
 
 pub machine_send : IsSend machine.the_row
 machine_send = search (parts_send, fields) depth 60 fits 20000

@@ -10,6 +10,7 @@ use crate::parts::{Parts, copy_parts, same_parts};
 use crate::stack::Stack;
 use crate::walk::Walk;
 use answer_runs::Answers;
+use captured_values::Captured;
 use core_syntax::{NodeId, Program};
 use eval_frames::{At, Frame, Registers};
 use serial_model::{Answer, Halt};
@@ -77,7 +78,7 @@ impl Machine {
             alloc,
             Parts {
                 body,
-                values,
+                values: Captured::of(values),
                 inside: in_transaction,
                 fuel,
                 answers: Answers::new(alloc),
@@ -105,7 +106,7 @@ impl Machine {
         Machine::start(
             alloc,
             self.parts.body,
-            self.parts.values.copy()?,
+            self.parts.values.values().copy()?,
             self.parts.inside,
             self.parts.fuel,
         )
@@ -139,6 +140,7 @@ impl Machine {
     {
         match keep_answer(alloc, &mut self.parts.answers, &answer) {
             Ok(()) => {
+                self.parts.values.note_use(alloc);
                 self.parts.inner.go_on(answer);
                 Ok(())
             }

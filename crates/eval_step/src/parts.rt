@@ -5,16 +5,15 @@ ghost use Rattle.eval_step.specs.Parts.{evaluation_of};
 use crate::copies::copy_walk;
 use crate::walk::Walk;
 use answer_runs::Answers;
+use captured_values::Captured;
 use core_syntax::NodeId;
 use std::alloc::{AllocError, Global};
-use value_core::Values;
-use value_core::lists::equal_values;
 
 /// What a machine is to evaluate, and how far it has come.
 #[derive(Drop)]
 pub struct Parts {
     pub body: NodeId,
-    pub values: Values,
+    pub values: Captured,
     pub inside: bool,
     pub fuel: u64,
     pub answers: Answers,
@@ -43,6 +42,6 @@ pub fn same_parts(left: &Parts, right: &Parts) -> bool
     left.body == right.body
         && left.inside == right.inside
         && left.fuel == right.fuel
-        && equal_values(&left.values, &right.values)
+        && left.values.same(&right.values)
         && left.answers.same(&right.answers)
 }

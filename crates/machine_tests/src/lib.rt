@@ -1,7 +1,8 @@
-//! Tests of histories and of the answers of a machine.
+//! Tests of histories, and of the answers and values of a machine.
 #![tactic(auto)]
 
 #[cfg(test)]
 mod answers;
+mod captured;
 #[cfg(test)]
 mod histories;
