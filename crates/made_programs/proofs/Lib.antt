@@ -1,6 +1,8 @@
 pub mod Assembled
 pub mod CoreTrees
 pub mod ExprTrees
+pub mod FormKinds
+pub mod Forms
 pub mod Likes
 pub mod MadePrograms
 pub mod MadeSource
@@ -9,6 +11,7 @@ pub mod Placed
 pub mod Planning
 pub mod Scoped
 pub mod Shapes
+pub mod Sizes
 pub mod Sugared
 pub mod Topped
 pub mod Trees

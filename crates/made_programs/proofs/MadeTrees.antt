@@ -220,8 +220,9 @@ transfer_texts number (index ∷ indices) =
     ap (λ x. x ∷ map text_of (map (transfer_tree number) indices)) (transfer_text number index)
     ∙ ap (λ x. transfer_line (transfer number index) ∷ x) (transfer_texts number indices)
 
-next : {x y : List ℕ} {xs ys : List (List ℕ)} → x ≡ y → xs ≡ ys → x ∷ xs ≡ y ∷ ys
-next {x} {y} {xs} {ys} e f = ap (λ z. z ∷ xs) e ∙ ap (λ z. y ∷ z) f
+-- two lists are the same where their first ones are, and those behind
+pub next : {X : Type 0} {x y : X} {xs ys : List X} → x ≡ y → xs ≡ ys → x ∷ xs ≡ y ∷ ys
+next {X} {x} {y} {xs} {ys} e f = ap (λ z. z ∷ xs) e ∙ ap (λ z. y ∷ z) f
 
 spawn_texts : map text_of spawn_trees ≡ map teller_line (range_with_len 0 8)
 spawn_texts =

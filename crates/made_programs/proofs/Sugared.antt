@@ -106,6 +106,9 @@ spawn_core teller small p =
 pub spawn_is : (teller : ℕ) (small : teller < 8) (p : Places (spawn_tree teller small)) (n : ℕ) → (meant (spawn_tree teller small) p).core n ≡ core_of (spawn_core teller small p)
 spawn_is teller small p n = rw (named_word teller small) refl
 
+pub spawn_made : (teller : ℕ) (small : teller < 8) (p : Places (spawn_tree teller small)) → (meant (spawn_tree teller small) p).made ≡ 0
+spawn_made teller small p = rw (named_word teller small) refl
+
 abbrev pub send_core : (teller from to amount : ℕ) (small : teller < 8) (low : from < 100) (other : to < 100) (few : amount ≤ 50) → Places (send_tree teller from to amount small low other few) → CoreTree
 send_core teller from to amount small low other few p =
     CoreTree.list p.0 (cores (CoreTree.word p.1.0 (codes "send") ∷ CoreTree.word p.1.1.0 (word_of teller)
@@ -114,3 +117,7 @@ send_core teller from to amount small low other few p =
 pub send_is : (teller from to amount : ℕ) (small : teller < 8) (low : from < 100) (other : to < 100) (few : amount ≤ 50) (p : Places (send_tree teller from to amount small low other few)) (n : ℕ)
     → (meant (send_tree teller from to amount small low other few) p).core n ≡ core_of (send_core teller from to amount small low other few p)
 send_is teller from to amount small low other few p n = rw (named_word teller small) refl
+
+pub send_made : (teller from to amount : ℕ) (small : teller < 8) (low : from < 100) (other : to < 100) (few : amount ≤ 50) (p : Places (send_tree teller from to amount small low other few))
+    → (meant (send_tree teller from to amount small low other few) p).made ≡ 0
+send_made teller from to amount small low other few p = rw (named_word teller small) refl
