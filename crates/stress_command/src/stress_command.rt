@@ -15,7 +15,8 @@ use value_core::Text;
 use worker_gate::Gate;
 use world_io::{Files, Sink};
 
-/// Runs the program that is made from that number and that size, by so many workers within the default limits. No trace is kept.
+/// Runs the program that is made from that number and that size, by so many workers within the default limits. No trace is kept. It is said
+/// of sizes up to 10,000, of which each is known to make a program: a command line says no other.
 pub fn stress_program<
     'a,
     R: Threads + Wait + Sync,
@@ -32,8 +33,7 @@ pub fn stress_program<
     outside: Outside<'a, F, K, E>,
     gate: &G,
 ) -> Outcome
-    requires made { size ≤ 10000 }
-    ensures answers { StressAnswers number size
+    ensures answers { size ≤ 10000 → StressAnswers number size
         (seen_before F.seen K.seen E.seen outside.entry)
         (seen_after F.seen K.seen E.seen outside.exit) result }
     ensures later { IsLater (seen_before F.seen K.seen E.seen outside.entry) (seen_after F.seen K.seen E.seen outside.exit) }
