@@ -42,6 +42,7 @@ use Rattle.txn_snapshot.specs.contracts.view.View as view
 use Rattle.unit_table.specs.contracts.mark.Mark as mark
 use Rattle.unit_table.specs.contracts.piece.Actor as actor
 use Rattle.unit_table.specs.contracts.piece.Piece as piece
+use Rattle.unit_table.specs.contracts.place.Place as place
 use Rattle.unit_table.specs.contracts.places.Places as places
 use Rattle.unit_table.specs.contracts.record.Record as record_row
 use Rattle.unit_table.specs.contracts.unit.Becoming as becoming
@@ -73,8 +74,11 @@ piece_send = search (unit_send, mark_send, actor_send, fields) depth 60 fits 200
 record_send : IsSend record_row.the_row
 record_send = search (piece_send, fields) depth 60 fits 20000
 
+place_send : IsSend place.the_row
+place_send = search (record_send, fields) depth 60 fits 20000
+
 places_send : IsSend places.the_row
-places_send = search (name_send, record_send, table.the_send, waits.the_send, maps.crosses, fields) depth 60 fits 20000
+places_send = search (name_send, place_send, table.the_send, waits.the_send, maps.crosses, fields) depth 60 fits 20000
 
 units_send : IsSend units.the_row
 units_send = search (places_send, slots.the_send, fields) depth 60 fits 20000

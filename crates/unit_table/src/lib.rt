@@ -3,6 +3,7 @@
 
 mod mark;
 mod piece;
+mod place;
 mod places;
 mod record;
 mod unfinished;

@@ -11,9 +11,9 @@ ghost use Rattle.wait_lists.specs.WaitLists.{need_of};
 
 use crate::mark::{Mark, WaitOn};
 use crate::piece::Piece;
+use crate::place::Place;
 use crate::record::{
-    Record, fill, move_unit, put_mark, put_place, set_actor, slot_in, take_place, ticket_in,
-    turn_into,
+    fill, move_unit, put_mark, put_place, set_actor, slot_in, take_place, ticket_in, turn_into,
 };
 use crate::unit::Becoming;
 use crate::waking::wake_all;
@@ -29,7 +29,7 @@ use wait_lists::WaitLists;
 /// The places by name; of each slot the name; which pieces are ready and lent; and which slot waits for the finish of which.
 #[derive(Drop)]
 pub struct Places {
-    pub(crate) records: BTreeMap<Name, Record>,
+    pub(crate) records: BTreeMap<Name, Place>,
     pub(crate) names: Vec<Option<Name>>,
     pub(crate) table: PieceTable,
     pub(crate) waits: WaitLists,
@@ -73,7 +73,7 @@ impl Places {
     {
         let key = name.copy(alloc)?;
         let ticket = self.make_slot(alloc, name)?;
-        match put_place(&mut self.records, key, ticket) {
+        match put_place(&mut self.records, alloc, key, ticket) {
             Ok(()) => {
                 self.table.claims_are_tied();
                 Ok(ticket)
@@ -174,7 +174,7 @@ impl Places {
         ensures { option_copied result ≡ piece_at (board_of self.now) name.now }
     {
         match find(&self.records, name) {
-            Some(place) => place.piece.as_ref(),
+            Some(place) => place.kept().piece.as_ref(),
             None => None,
         }
     }
@@ -267,7 +267,7 @@ impl Places {
         ensures some { IfSome result (IsSpare (board_of self.now) self.now.waits name.now) }
         ensures none { IfNone result (IsInUse (board_of self.now) self.now.waits name.now) }
     {
-        let place = find(&self.records, name)?;
+        let place = find(&self.records, name)?.kept();
         let is_awaited = self.waits.is_awaited(place.ticket.slot);
         if place.piece.is_some() || is_awaited {
             return None;
@@ -352,7 +352,7 @@ impl Places {
 
 /// Puts the piece into the place of the name that has the slot.
 fn fill_slot(
-    records: &mut BTreeMap<Name, Record>,
+    records: &mut BTreeMap<Name, Place>,
     names: &Vec<Option<Name>>,
     slot: usize,
     piece: Piece,

@@ -65,8 +65,8 @@ pub(crate) fn note(places: &Places, unfinished: &mut SlotSet, name: &Name)
     ensures { IsUnfinishedNoted (board_of places.now) name.now unfinished.old unfinished.new }
 {
     match find(&places.records, name) {
-        Some(place) if goes_on(place) => unfinished.insert(place.ticket.slot),
-        Some(place) => unfinished.remove(place.ticket.slot),
+        Some(place) if goes_on(place.kept()) => unfinished.insert(place.kept().ticket.slot),
+        Some(place) => unfinished.remove(place.kept().ticket.slot),
         None => {}
     }
 }

@@ -7,8 +7,9 @@ ghost use Rattle.unit_table.specs.Piece.{woken};
 ghost use Rattle.value_core.specs.Named.{named, Name as Called};
 
 use crate::mark::{Mark, Work};
+use crate::place::Place;
 use crate::places::Places;
-use crate::record::{Record, put_mark};
+use crate::record::put_mark;
 use piece_table::PieceTable;
 use std::collections::BTreeMap;
 use value_core::Name;
@@ -56,7 +57,7 @@ fn wake_one(places: &mut Places, name: &Name, slot: usize) -> bool
 
 /// What has that slot is ready to settle.
 fn settle_slot(
-    records: &mut BTreeMap<Name, Record>,
+    records: &mut BTreeMap<Name, Place>,
     table: &mut PieceTable,
     names: &Vec<Option<Name>>,
     slot: usize,
@@ -72,7 +73,7 @@ fn settle_slot(
 }
 
 /// What stands under the name is ready to settle.
-fn settle(records: &mut BTreeMap<Name, Record>, table: &mut PieceTable, name: &Name)
+fn settle(records: &mut BTreeMap<Name, Place>, table: &mut PieceTable, name: &Name)
     requires { IfSome (named name.now records.old.entries) (λ r. IsSome (find table.old.pieces r.ticket)) }
     ensures { IsSettled name.now records.old.entries records.new.entries table.old table.new }
 {
