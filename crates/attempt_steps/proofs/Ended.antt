@@ -21,7 +21,8 @@ use Rattle.attempt_steps.proofs.Posted.{drop-none}
 use Rattle.shared_world.proofs.Standing.{root-in}
 use Rattle.attempt_steps.proofs.Wanting.{settling-wanting}
 use Rattle.shared_world.specs.Stands.{Stands}
-use Rattle.attempt_steps.specs.Tasks.{DecidedOrWaits, HasDecidedAt, IsOwned, IsTaskIn, IsTaskOf, TaskCame}
+use Rattle.attempt_deciding.specs.TaskAt.{IsTaskIn}
+use Rattle.attempt_steps.specs.Tasks.{DecidedOrWaits, HasDecidedAt, IsOwned, IsTaskOf, TaskCame}
 use Rattle.attempts_gone.specs.Dropping.{HasAttempt}
 
 among-made : (tree : Attempt) (task next : Name) → next_made_at tree task ≡ Some next → is_some (named task tree.tasks) ≡ true

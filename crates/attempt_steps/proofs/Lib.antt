@@ -1,10 +1,6 @@
 pub mod Again
 pub mod Children
-pub mod Claimed
-pub mod Conflicts
-pub mod Decided
 pub mod Ended
-pub mod Ending
 pub mod Posted
 pub mod Taking
 pub mod Waits

@@ -7,7 +7,7 @@ use Rattle.eval_step.specs.Evaluation.{Evaluation}
 use Rattle.attempt_commits.proofs.Committing.{at-attempt}
 use Rattle.attempt_steps.proofs.Wanting.{same-itself}
 use Rattle.world_steps.specs.Kept.{IsSameBut}
-use Rattle.attempt_steps.proofs.Ending.{NoneGone, decided-ends, local-gone, marked-ends, put-keeps, set-keeps, undone-ends, waiting-gone}
+use Rattle.attempt_deciding.proofs.Ending.{NoneGone, decided-ends, local-gone, marked-ends, put-keeps, set-keeps, undone-ends, waiting-gone}
 use Rattle.attempt_steps.proofs.Again.{gone-again}
 use Rattle.attempt_steps.proofs.Posted.{IsRooted, ahead-posts, level-posts, open-posts, posted-so, posting-there, quiet-posts}
 use Rattle.attempt_sends.specs.Putting.{ArePosted}
@@ -17,11 +17,12 @@ use Rattle.shared_world.specs.Seen.{done_by_root}
 use Rattle.attempt_steps.specs.declared.tasks.Child.{Child}
 use Rattle.attempt_commits.specs.Committing.{IsTrying}
 use Rattle.attempts_gone.specs.Dropping.{HasAttempt}
-use Rattle.attempt_steps.specs.Deciding.{DecidedOr}
+use Rattle.attempt_deciding.specs.Deciding.{DecidedOr}
 use Rattle.attempt_steps.specs.Tasks as tasks
-use Rattle.attempt_steps.specs.Tasks.{ComesAfter, DecidedOrWaits, DecidesOr, GoesOnOr, HasCome, HasDecidedAt, HasDoneNoMore, HasForkedTask, HasRoomFor, HasStepped, IsOfStep, IsReadied, IsRoomFor, IsTaskAt, IsTaskIn, MissesOr, StepPosted, TaskMarked, TaskWaits, is_onward}
+use Rattle.attempt_deciding.specs.TaskAt.{IsTaskAt, IsTaskIn}
+use Rattle.attempt_steps.specs.Tasks.{ComesAfter, DecidedOrWaits, DecidesOr, GoesOnOr, HasCome, HasDecidedAt, HasDoneNoMore, HasForkedTask, HasRoomFor, HasStepped, IsOfStep, IsReadied, IsRoomFor, MissesOr, StepPosted, TaskMarked, TaskWaits, is_onward}
 use Rattle.attempt_steps.specs.Waiting.{EndWaitsOr, HasWaited, TurnWaitsOr}
-use Rattle.attempt_steps.specs.Undoing.{HasAborted}
+use Rattle.attempt_deciding.specs.Undoing.{HasAborted}
 use Rattle.ref_store.specs.declared.version.Version.{Version}
 use Rattle.ref_store.specs.Store.{versions_of}
 use Rattle.ref_store.specs.Version.{newest}

@@ -4,7 +4,7 @@ use Rattle.std.specs.Option.{IsSome}
 use Rattle.std.specs.Prelude.{None, Option, Some, is_some}
 use Rattle.shared_world.specs.Ahead.{Ahead}
 use Rattle.attempt_commits.specs.Committing.{IsTrying}
-use Rattle.attempt_steps.specs.Deciding.{IsWaitingUnit}
+use Rattle.attempt_steps.specs.Waiting.{IsWaitingUnit}
 use Rattle.attempts_gone.specs.Gone.{IsFree}
 use Rattle.shared_world.proofs.Live.{unit-piece}
 use Rattle.shared_world.specs.Shared.{Shared}

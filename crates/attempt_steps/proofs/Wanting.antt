@@ -12,7 +12,8 @@ use Rattle.world_steps.proofs.Forking.{same-claimed, same-stands}
 use Rattle.world_steps.proofs.Settling.{same-claims}
 use Rattle.world_steps.specs.Kept.{IsSameBut}
 use Rattle.attempt_steps.specs.Tasks as left_as
-use Rattle.attempt_steps.specs.Tasks.{ComesAfter, HasCome, HasDoneNoMore, HasStepped, IsLeft, IsReadied, IsReadyTask, IsTaskIn, IsTaskOf, IsWanting, MayUndo, TaskCame, is_onward}
+use Rattle.attempt_deciding.specs.TaskAt.{IsTaskIn}
+use Rattle.attempt_steps.specs.Tasks.{ComesAfter, HasCome, HasDoneNoMore, HasStepped, IsLeft, IsReadied, IsReadyTask, IsTaskOf, IsWanting, MayUndo, TaskCame, is_onward}
 use Rattle.serial_model.specs.declared.effect.Effect.{Effect}
 use Rattle.serial_model.specs.declared.halt.Halt.{Halt}
 use Rattle.serial_model.specs.declared.halt.Halt.TheVariants as halt

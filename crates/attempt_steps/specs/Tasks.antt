@@ -1,9 +1,9 @@
 -- Tasks of attempts that take a step.
 use Rattle.std.specs.Prelude.{◌≡◌, ◌≤◌, ◌⊎◌, ℕ, Bool, Err, IfSome, None, Ok, Option, Result, Some, drop, is_some, length, take, false, true, ⊤}
 use Rattle.std.specs.declared.alloc.AllocError.{AllocError}
-use Rattle.std.specs.Option.{IsSome}
 use Rattle.eval_step.specs.Evaluation.{Evaluation, IsAsk, IsAsking, IsOf, IsSame}
 use Rattle.world_steps.specs.declared.kept.Kept.{Kept}
+use Rattle.attempt_deciding.specs.TaskAt.{IsTaskAt, IsTaskIn}
 use Rattle.attempt_steps.specs.declared.tasks.Child.{Child}
 use Rattle.attempts_gone.specs.Dropping.{HasAttempt}
 use Rattle.attempt_sends.specs.Putting.{ArePosted}
@@ -19,7 +19,7 @@ use Rattle.shared_world.specs.declared.given.Given.TheVariants as given
 use Rattle.shared_world.specs.Gave.{GaveTask, gone_with}
 use Rattle.shared_world.specs.Returned.{halt_of}
 use Rattle.shared_world.specs.rows.Pieces.{ClaimsEnd}
-use Rattle.shared_world.specs.Marks.{AreMarkedBeside, HasMarks}
+use Rattle.shared_world.specs.Marks.{HasMarks}
 use Rattle.shared_world.specs.rows.Sending.{sends_in}
 use Rattle.shared_world.specs.rows.Tasks.{AfterStep, Forked, IsMarkedTask, Missing, RootGives, StepPosts}
 use Rattle.shared_world.specs.Seen.{done_by_root}
@@ -31,7 +31,7 @@ use Rattle.task_fork_join.specs.declared.stepped.Stepped.{Stepped}
 use Rattle.task_fork_join.specs.declared.stepped.Stepped.TheVariants as stepped
 use Rattle.task_fork_join.specs.declared.task_end.TaskEnd.{TaskEnd}
 use Rattle.task_fork_join.specs.Step.{IsStep}
-use Rattle.unit_table.specs.Board.{Board, HasPlace, IsUnlent, SameClaims, lent_to, piece_at, unit_at}
+use Rattle.unit_table.specs.Board.{HasPlace, IsUnlent, SameClaims, lent_to, piece_at, unit_at}
 use Rattle.unit_table.specs.declared.mark.Mark.{Mark}
 use Rattle.unit_table.specs.declared.mark.Mark.TheVariants as mark
 use Rattle.unit_table.specs.declared.mark.WaitOn.TheVariants as wait
@@ -44,17 +44,6 @@ use Rattle.value_core.specs.declared.ticket.Ticket.{Ticket}
 use Rattle.value_core.specs.declared.value.Value.{Value}
 use Rattle.value_core.specs.Named.{Name, Named, named, with_named}
 use Rattle.value_core.specs.Placed.{HasPlace as HasOwnerPlace}
-
--- a task of the attempt of a unit
-pub record IsTaskIn (s : Shared) (owner task : Name) (tree : Attempt) : Type 0 where
-  pub mark : Mark
-  pub there : piece_at s.board task ≡ Some (piece.Task mark)
-  pub of : named task s.owners ≡ Some owner
-  pub unit : Unit
-  pub unit_there : unit_at s.board owner ≡ Some unit
-  pub attempt : named owner s.attempts ≡ Some tree
-  pub among : is_some (named task tree.tasks) ≡ true
-  pub rooted : IsSome (named tree.root tree.tasks)
 
 -- such a task whose machine was moved to that halt
 pub record IsTaskOf (s : Shared) (owner task : Name) (moved : Evaluation) (h : Halt) : Type 0 where
@@ -131,11 +120,6 @@ pub record IsWanting (old : Shared) (name : Name) (new : Shared) : Type 0 where
 pub record IsReadied (w : Work) (old : Shared) (task : Name) (new : Shared) : Type 0 where
   pub marked : IsMarkedTask old task (mark.Ready w) new
   pub claims : (ticket : Ticket) → (lent_to old.board ticket ≡ Some task → ⊥) → lent_to new.board ticket ≡ lent_to old.board ticket
-
--- a task stands under the name
-pub record IsTaskAt (b : Board) (task : Name) : Type 0 where
-  pub mark : Mark
-  pub there : piece_at b task ≡ Some (piece.Task mark)
 
 -- a task of an attempt of that unit
 pub record IsOwned (s : Shared) (task owner : Name) : Type 0 where

@@ -2,7 +2,8 @@
 ghost use Rattle.std.specs.Prelude.{◌≡◌, IfOk, IfSome, None, OnErr, OnOk, Some, false, is_some, length};
 ghost use Rattle.std.specs.Option.{option_copied, option_map, IsSome};
 ghost use Rattle.world_steps.specs.Kept.{shared_of, IsSameBut};
-ghost use Rattle.attempt_steps.specs.Tasks.{ComesAfter, DecidedOrWaits, DecidesOr, GoesOnOr, HasDoneNoMore, HasForkedTask, HasPosted, HasRoomFor, HasStepped, IsNext, IsNextIfForked, IsOfStep, IsRoomyChild, IsTaskAt, IsTaskIn, IsTaskOf, IsOwned, MayUndo, MissesOr, TaskCame, TaskMarked, TaskWaits};
+ghost use Rattle.attempt_deciding.specs.TaskAt.{IsTaskAt, IsTaskIn};
+ghost use Rattle.attempt_steps.specs.Tasks.{ComesAfter, DecidedOrWaits, DecidesOr, GoesOnOr, HasDoneNoMore, HasForkedTask, HasPosted, HasRoomFor, HasStepped, IsNext, IsNextIfForked, IsOfStep, IsRoomyChild, IsTaskOf, IsOwned, MayUndo, MissesOr, TaskCame, TaskMarked, TaskWaits};
 ghost use Rattle.ref_store.specs.declared.version.Version.{Version as Versioned};
 ghost use Rattle.ref_store.specs.Store.{versions_of};
 ghost use Rattle.ref_store.specs.Version.{newest};
@@ -18,9 +19,8 @@ ghost use Rattle.unit_table.specs.Board.{CanWait, HasPlace};
 ghost use Rattle.unit_table.specs.Piece.{says_dropped};
 ghost use Rattle.value_core.specs.Named.{named};
 
-use crate::deciding::decide;
-use crate::undoing::abort;
 use crate::waiting::{check_trying, wait_at_end, wait_for_turn};
+use attempt_deciding::{abort, decide};
 use attempt_sends::post_sends;
 use eval_step::Machine;
 use ref_store::Store;

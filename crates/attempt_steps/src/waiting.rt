@@ -2,8 +2,8 @@
 ghost use Rattle.std.specs.Prelude.{◌≡◌, IfSome, OnOk, false};
 ghost use Rattle.std.specs.Option.{IsSome};
 ghost use Rattle.attempt_commits.specs.Committing.{IsTrying};
-ghost use Rattle.attempt_steps.specs.Deciding.{IsWaitingUnit};
-ghost use Rattle.attempt_steps.specs.Tasks.{IsTaskAt, IsTaskIn};
+ghost use Rattle.attempt_steps.specs.Waiting.{IsWaitingUnit};
+ghost use Rattle.attempt_deciding.specs.TaskAt.{IsTaskAt, IsTaskIn};
 ghost use Rattle.attempt_steps.specs.Waiting.{EndWaitsOr, TurnWaitsOr};
 ghost use Rattle.unit_table.specs.Piece.{says_ready};
 ghost use Rattle.value_core.specs.Named.{named};

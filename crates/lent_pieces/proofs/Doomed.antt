@@ -1,7 +1,7 @@
 -- Results by which an attempt is undone.
 use Rattle.std.proofs.Common.{◌≡◌, ◌∙◌, subst, sym}
 use Rattle.std.specs.Prelude.{None, Option, Some}
-use Rattle.attempt_steps.specs.Undoing.{FindsToUndo, IsToUndo}
+use Rattle.attempt_deciding.specs.Undoing.{FindsToUndo, IsToUndo}
 use Rattle.lent_pieces.specs.Claims.{IsLiveAs}
 use Rattle.lent_pieces.specs.Doomed.{FindsDoomed, IsDoomed}
 use Rattle.shared_world.specs.Returned.{IsLive, Returned}

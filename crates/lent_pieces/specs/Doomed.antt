@@ -1,6 +1,6 @@
 -- Results by which an attempt is undone.
 use Rattle.std.specs.Prelude.{None, Option, Some}
-use Rattle.attempt_steps.specs.Undoing.{IsToUndo}
+use Rattle.attempt_deciding.specs.Undoing.{IsToUndo}
 use Rattle.shared_world.specs.Returned.{IsLive, Returned}
 use Rattle.shared_world.specs.Shared.{Shared}
 use Rattle.txn_commit.specs.declared.conflict.Conflict.{Conflict}

@@ -3,15 +3,13 @@ ghost use mathlib.Core.List.{IsPrefix};
 ghost use Rattle.worker_gate.specs.Lent.{HasSeat, seen_of, shares_of};
 ghost use Rattle.world_lock.specs.Known.{IsSeatOf};
 
-use crate::between::Between;
-use crate::gate::Gate;
 use crate::spreading::spread;
-use crate::working::work;
 use core_syntax::Program;
 use interleave_core::World;
 use std::alloc::Global;
 use std::sync::Wait;
 use std::thread::{Threads, join_mut};
+use worker_rounds::{Between, Gate, work};
 use world_lock::{Seat, WorldLock};
 
 /// Worker 0 with so many others beside it. Their seats are joined.

@@ -3,14 +3,12 @@ ghost use Rattle.std.specs.Thread.{IsSync};
 ghost use mathlib.Core.List.{IsPrefix};
 ghost use Rattle.world_lock.specs.Known.{IsSeatOf};
 
-use crate::between::NoBetween;
-use crate::gate::Gate;
-use crate::working::work;
 use core_syntax::Program;
 use interleave_core::World;
 use std::alloc::Global;
 use std::sync::Wait;
 use std::thread::{Threads, join};
+use worker_rounds::{Gate, NoBetween, work};
 use world_lock::{Seat, WorldLock};
 
 /// A worker's whole work, with nothing between its holds.

@@ -1,19 +1,16 @@
 ghost use Rattle.std.specs.Prelude.{◌≡◌, ◌<◌, IfSome};
 ghost use mathlib.Core.List.{IsPrefix};
 ghost use Rattle.interleave_core.specs.Grown.{IsDone};
-ghost use Rattle.worker_gate.specs.declared.stop.Stop.TheVariants as stops;
+ghost use Rattle.worker_rounds.specs.declared.stop.Stop.TheVariants as stops;
 ghost use Rattle.world_lock.specs.Known.{IsSeatOf};
 
 use crate::beside::beside;
-use crate::between::Between;
-use crate::gate::Gate;
-use crate::stop::Worked;
-use crate::working::work;
 use core_syntax::Program;
 use interleave_core::World;
 use std::alloc::Global;
 use std::sync::Wait;
 use std::thread::Threads;
+use worker_rounds::{Between, Gate, Worked, work};
 use world_lock::{Seat, WorldLock};
 
 /// So many workers side by side, the first of which does `between` between its holds; and then the caller itself, which goes

@@ -7,7 +7,8 @@ use Rattle.shared_world.specs.Seen.{done_by_root}
 use Rattle.std.specs.Prelude.{length, ◌≡◌}
 use Rattle.attempt_steps.proofs.Wanting.{done-no-more, taken, taken-beside, taken-came, taken-stands, taken-task}
 use Rattle.world_steps.specs.Kept.{shared_of}
-use Rattle.attempt_steps.specs.Tasks.{IsNextIfForked, IsTaskIn}
+use Rattle.attempt_deciding.specs.TaskAt.{IsTaskIn}
+use Rattle.attempt_steps.specs.Tasks.{IsNextIfForked}
 use Rattle.task_fork_join.specs.Attempt.{Attempt}
 use Rattle.value_core.specs.Named.{named}
 use Rattle.shared_world.specs.Shared.{is_going}

@@ -1,7 +1,7 @@
 use Rattle.std.proofs.Common.{◌≡◌, ◌∙◌, Some, ap, refl, subst, sym}
 use Rattle.std.specs.Arc.{arc_value}
 use Rattle.std.specs.Option.{option_copied}
-use Rattle.attempt_steps.specs.Undoing.{FindsToUndo}
+use Rattle.attempt_deciding.specs.Undoing.{FindsToUndo}
 use Rattle.lent_pieces.proofs.Doomed.{none-to-undo, not-live, undone-live}
 use Rattle.lent_pieces.proofs.giving.doomed.Goals as goal
 use Rattle.lent_pieces.specs.Claims.{IsLiveAs}

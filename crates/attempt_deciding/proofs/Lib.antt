@@ -1,0 +1,4 @@
+pub mod Claimed
+pub mod Conflicts
+pub mod Decided
+pub mod Ending

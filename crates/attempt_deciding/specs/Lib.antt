@@ -1,0 +1,4 @@
+pub mod Deciding
+pub mod Ending
+pub mod TaskAt
+pub mod Undoing

@@ -1,0 +1,21 @@
+use denote.Param.Send.{sendable}
+use Rattle.std.proofs.Common.{◌∙◌, subst, sym}
+use Rattle.interleave_core.proofs.Crossing.{world_send}
+use Rattle.worker_rounds.proofs.Holding.{abandoned-later}
+use Rattle.interleave_core.specs.Grown.{history_seen, setup_seen}
+use Rattle.worker_rounds.proofs.holds.abandon_in.Goals as goal
+use Rattle.world_lock.specs.Later.{IsLater}
+
+pub enter-turn-requires-send-T : goal.enter-turn-requires-send-T
+enter-turn-requires-send-T g c κs within = search (world_send, sendable) depth 20
+
+pub value-requires-send-T : goal.value-requires-send-T
+value-requires-send-T g c κs = search (world_send, sendable) depth 20
+
+pub leave-requires-send-T : goal.leave-requires-send-T
+leave-requires-send-T g c κs = search (world_send, sendable) depth 20
+
+pub leave-requires-clause-later : goal.leave-requires-clause-later
+leave-requires-clause-later g c = λ _.
+    subst (λ w. IsLater setup_seen history_seen w c.abandon.new.self) (c.value.ensures.value ∙ sym c.enter-turn.ensures.entered)
+    (abandoned-later c.value.result.now c.abandon.new.self c.args.ticket c.abandon.ensures)
