@@ -5,11 +5,13 @@ use Rattle.std.specs.Str.{bytes_eq}
 use Rattle.std.proofs.lemmas.Bool.{and_parts}
 use Rattle.std.proofs.lemmas.Bool.Decides.{nat_tests}
 use Rattle.serial_model.specs.Limits.{Budget}
-use Rattle.command_words.specs.Number.{number_of}
-use Rattle.command_words.specs.Reading.{Form, Word, given_of, value_of}
-use Rattle.command_words.specs.Said.{check_of, command_of, limits_of, made_of, make_of, number_between, replay_of, run_of, said_by, schedule_of, stress_of, within, workers_of, run_form, schedule_form, replay_form, check_form, make_form, stress_form}
-use Rattle.command_words.specs.declared.command.Command.{Command}
-use Rattle.command_words.specs.declared.command.Command.TheVariants.{Run, Schedule, Replay, Check, Make, Stress}
+use Rattle.said_values.specs.Number.{number_of}
+use Rattle.said_values.specs.Values.{limits_of, made_of, number_between, within, Word, workers_of}
+use Rattle.command_words.specs.Reading.{Form, given_of, value_of}
+use Rattle.said_commands.specs.Said.{check_of, make_of, replay_of, run_of, schedule_of, stress_of}
+use Rattle.command_words.specs.Said.{command_of, said_by, run_form, schedule_form, replay_form, check_form, make_form, stress_form}
+use Rattle.said_commands.specs.declared.command.Command.{Command}
+use Rattle.said_commands.specs.declared.command.Command.TheVariants.{Run, Schedule, Replay, Check, Make, Stress}
 
 -- what comes of an option, where it comes of each
 on_each : {A B : Type 0} (P : A → Type 0) (Q : B → Type 0) (f : A → Option B) (o : Option A) → IfSome o P → ((a : A) → P a → IfSome (f a) Q) → IfSome (option_and_then f o) Q

@@ -2,7 +2,7 @@
 use Rattle.std.proofs.Common.{◌≡◌, ℕ, List, [], ◌∷◌, refl, subst, inl, inr, arith, le_refl}
 use Rattle.std.specs.Prelude.{Option, Some}
 use Rattle.command_words.specs.Said.{command_of}
-use Rattle.command_words.specs.declared.command.Command.TheVariants as said
+use Rattle.said_commands.specs.declared.command.Command.TheVariants as said
 use Rattle.serial_model.specs.Limits.{Budget}
 use Rattle.world_io.specs.Seen.{FilesSeen, SinkSeen}
 use Rattle.command_phases.specs.declared.outcome.Outcome.{Outcome}

@@ -1,7 +1,7 @@
 -- What is owed to the words of a command line.
 use Rattle.std.specs.Prelude.{◌≡◌, ℕ, List, Option, None, Some}
 use Rattle.command_words.specs.Said.{command_of}
-use Rattle.command_words.specs.declared.command.Command.TheVariants as said
+use Rattle.said_commands.specs.declared.command.Command.TheVariants as said
 use Rattle.serial_model.specs.Limits.{Budget}
 use Rattle.command_phases.specs.declared.outcome.Outcome.{Outcome}
 use Rattle.serial_commands.specs.CheckAnswers.{CheckAnswers}

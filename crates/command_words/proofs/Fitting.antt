@@ -7,7 +7,8 @@ use Rattle.std.proofs.lemmas.Bool.{and_left, not-true, eqb-true}
 use Rattle.std.specs.Prelude.{nat_lt, find, if◌then◌else◌}
 use Rattle.std.proofs.lemmas.Bool.Decides.{nat_tests}
 use Rattle.std.proofs.lemmas.Option.{cond_some, none-some}
-use Rattle.command_words.specs.Reading.{Word, dashed, is_equals, is_fit, option_of}
+use Rattle.said_values.specs.Values.{Word}
+use Rattle.command_words.specs.Reading.{dashed, is_equals, is_fit, option_of}
 use Rattle.command_words.specs.Parser.{is_readable, is_readable_option}
 
 -- an element passes where the first place that passes is inside the list

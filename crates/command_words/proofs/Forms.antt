@@ -12,7 +12,8 @@ use Rattle.clap.specs.Kinds.{or_else}
 use Rattle.clap.specs.Faults.{check_fault, default_fault, defaults_fault, given_default_fault}
 use Rattle.clap.specs.declared.error.ErrorKind.TheVariants.{MissingRequiredArgument}
 use Rattle.std.proofs.lemmas.Option.{none-some}
-use Rattle.command_words.specs.Reading.{Word, Form, is_given}
+use Rattle.said_values.specs.Values.{Word}
+use Rattle.command_words.specs.Reading.{Form, is_given}
 use Rattle.command_words.specs.Said.{run_form, schedule_form, replay_form, check_form, make_form, stress_form}
 use Rattle.command_words.proofs.Rules.{built_form, option_rule, place_rule, places_from, row_of, rows_of, rules_of}
 use Rattle.command_words.proofs.Turns.{Known}

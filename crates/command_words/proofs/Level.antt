@@ -8,9 +8,10 @@ use Rattle.clap.specs.Simple.{Shape}
 use Rattle.clap.specs.Kinds.{Kinds, or_else}
 use Rattle.clap.specs.Faults.{check_fault, defaults_fault, level_fault, settle_fault, turn_fault, walk_fault}
 use Rattle.clap.specs.declared.error.ErrorKind.TheVariants.{MissingRequiredArgument}
-use Rattle.command_words.specs.Reading.{Word, Form, Reading, give, given_of, is_equals, is_fit, is_given, read_in_place, read_unasked, read_words, whole}
+use Rattle.said_values.specs.Values.{Word}
+use Rattle.command_words.specs.Reading.{Form, Reading, give, given_of, is_equals, is_fit, is_given, read_in_place, read_unasked, read_words, whole}
 use Rattle.command_words.specs.Parser.{is_readable, is_readable_option}
-use Rattle.command_words.proofs.NumberLemmas.{both}
+use Rattle.std.proofs.lemmas.Bool.{and_parts}
 use Rattle.command_words.proofs.Fitting.{Looks, after_dashes, option_of_dashed, option_of_fit, readable_cases}
 use Rattle.command_words.proofs.Rules.{built_form, option_rule, rows_of, rules_of}
 use Rattle.command_words.proofs.Turns.{Fails, Known, Ready, alone_passes, alone_taken, asking, asking_fails, clean, clean_ready, fails_as, first_fails, holding, holding_fails, holding_ready, name_in, no_place_fails, option_fails, place_fails, place_passes, place_taken, unknown_fails, value_again_fails, value_in, value_passes, value_taken, walk_at, with_value_passes, with_value_taken}
@@ -277,7 +278,7 @@ module _ (title : Word) (form : Form) (sound : IsSound form) where
   steps : (words : List Word) → list_all is_readable words ≡ true → Steps words
   steps [] readable = (unasked_end, asked_end)
   steps (w ∷ words) readable =
-      let parts = both (is_readable w) (list_all is_readable words) readable in
+      let parts = and_parts (is_readable w) (list_all is_readable words) readable in
       step w words parts.0 (steps words parts.1)
 
   -- the parser of the command refuses the words that its rules refuse, and else keeps what they give

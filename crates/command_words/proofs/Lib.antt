@@ -1,4 +1,3 @@
-pub mod NumberLemmas
 pub mod Fitting
 pub mod Rules
 pub mod Turns

@@ -8,11 +8,13 @@ use Rattle.clap.specs.Walk.{is_empty}
 use Rattle.std.proofs.lemmas.Bool.{and_cases, and_left, eqb-true, or_parts}
 use Rattle.std.proofs.lemmas.Bool.Decides.{nat_tests}
 use Rattle.std.proofs.lemmas.Option.{none-some}
-use Rattle.command_words.specs.declared.command.Command.{Command}
-use Rattle.command_words.specs.Reading.{Word, Form, Reading, dashed, first_reading, give, is_equals, is_fit, is_given, option_of, read_by, read_in_place, read_unasked, read_word, read_words, value_of, whole}
-use Rattle.command_words.specs.Said.{check_form, check_of, command_of, make_form, make_of, replay_form, replay_of, run_form, run_of, said_by, schedule_form, schedule_of, stress_form, stress_of}
+use Rattle.said_commands.specs.declared.command.Command.{Command}
+use Rattle.said_values.specs.Values.{Word}
+use Rattle.command_words.specs.Reading.{Form, Reading, dashed, first_reading, give, is_equals, is_fit, is_given, option_of, read_by, read_in_place, read_unasked, read_word, read_words, value_of, whole}
+use Rattle.said_commands.specs.Said.{check_of, make_of, replay_of, run_of, schedule_of, stress_of}
+use Rattle.command_words.specs.Said.{check_form, command_of, make_form, replay_form, run_form, said_by, schedule_form, stress_form}
 use Rattle.command_words.specs.Parser.{behind_dashes, is_readable, is_readable_option}
-use Rattle.command_words.proofs.NumberLemmas.{both}
+use Rattle.said_commands.proofs.OtherNames.{other_name}
 use Rattle.command_words.proofs.Fitting.{after_dashes, find_none, option_of_dashed}
 use Rattle.command_words.proofs.Forms.{IsSound, check_sound, make_sound, replay_sound, run_sound, schedule_sound, stress_sound}
 
@@ -102,22 +104,6 @@ module _ (form : Form) (sound : IsSound form) where
   pub unreadable_said : (made : (Word → Option Word) → Option Command) (words : List Word) → list_all is_readable words ≡ false → said_by form made words ≡ None
   unreadable_said made words unreadable =
       ap (λ o. option_and_then (λ given. made (value_of given)) (option_and_then (whole form) o)) (unreadable_words words (first_reading form) unreadable)
-
-same_bytes : (xs ys : Word) → bytes_eq xs ys ≡ true → xs ≡ ys
-same_bytes [] [] same = refl
-same_bytes [] (y ∷ ys) same = absurd (true≢false (sym same))
-same_bytes (x ∷ xs) [] same = absurd (true≢false (sym same))
-same_bytes (x ∷ xs) (y ∷ ys) same =
-    let parts = both (x == y) (bytes_eq xs ys) same in
-    ap₂ (λ a b. a ∷ b) (eqb-true x y parts.0) (same_bytes xs ys parts.1)
-
--- a word that is not that one
-pub other_name : (title name : Word) → (name ≡ title → ⊥) → bytes_eq title name ≡ false
-other_name title name apart = go (bytes_eq title name) refl
-  where
-    go : (b : Bool) → bytes_eq title name ≡ b → b ≡ false
-    go true same = absurd (apart (sym (same_bytes title name same)))
-    go false same = refl
 
 not_named : (title name : Word) → is_readable title ≡ true → is_readable name ≡ false → bytes_eq title name ≡ false
 not_named title name readable unreadable = other_name title name (λ same. true≢false (sym readable ∙ ap is_readable (sym same) ∙ unreadable))

@@ -9,11 +9,13 @@ use Rattle.clap.specs.Kinds.{Kinds, or_else}
 use Rattle.clap.specs.Faults.{check_fault, defaults_fault, entered_fault, fault_of, level_fault, other_fault, settle_fault, step_fault, turn_fault, walk_fault, word_fault}
 use Rattle.clap.specs.declared.error.ErrorKind.TheVariants.{DisplayHelp, InvalidSubcommand}
 use Rattle.clap.proofs.WalkLemmas.{walk_stopped}
-use Rattle.command_words.specs.declared.command.Command.{Command}
-use Rattle.command_words.specs.Reading.{Word, Form, given_of, is_fit, value_of}
-use Rattle.command_words.specs.Said.{check_form, check_of, command_of, make_form, make_of, replay_form, replay_of, run_form, run_of, said_by, schedule_form, schedule_of, stress_form, stress_of}
-use Rattle.command_words.specs.Parser.{command_named, is_readable, told}
-use Rattle.command_words.proofs.NumberLemmas.{both}
+use Rattle.said_commands.specs.declared.command.Command.{Command}
+use Rattle.said_values.specs.Values.{Word}
+use Rattle.command_words.specs.Reading.{Form, given_of, is_fit, value_of}
+use Rattle.said_commands.specs.Said.{check_of, command_named, make_of, replay_of, run_of, schedule_of, stress_of}
+use Rattle.command_words.specs.Said.{check_form, command_of, make_form, replay_form, run_form, said_by, schedule_form, stress_form}
+use Rattle.command_words.specs.Parser.{is_readable, told}
+use Rattle.std.proofs.lemmas.Bool.{and_parts}
 use Rattle.command_words.proofs.Fitting.{Looks, readable_cases}
 use Rattle.command_words.proofs.Rules.{built_form, row_of, rows_of, rules_of}
 use Rattle.command_words.proofs.Turns.{Fails, dashed_fault_among, fails_as, first_fails, fit_met_among, fit_passes_among}
@@ -108,7 +110,7 @@ or_nothing (k ∷ ks) = refl
 
 module _ (name : Word) (words : List Word) (readable : list_all is_readable (name ∷ words) ≡ true) where
   rest_readable : list_all is_readable words ≡ true
-  rest_readable = (both (is_readable name) (list_all is_readable words) readable).1
+  rest_readable = (and_parts (is_readable name) (list_all is_readable words) readable).1
 
   -- of a command that is named, by its own parser
   of_command : (title : Word) (form : Form) (made : (Word → Option Word) → Option Command) → IsSound form
@@ -161,7 +163,7 @@ module _ (name : Word) (words : List Word) (readable : list_all is_readable (nam
       of_command (codes "stress") stress_form stress_of stress_sound
       (fault_after name (codes "stress") words met refl ∙ or_nothing _) (subcommand_after name (codes "stress") words met refl) said (λ given. refl)
   by_name false false false false false false met said =
-      refused (unknown_fails name words met (both (is_readable name) (list_all is_readable words) readable).0) said
+      refused (unknown_fails name words met (and_parts (is_readable name) (list_all is_readable words) readable).0) said
 
   some_words : Parses (name ∷ words)
   some_words = by_name (bytes_eq (codes "run") name) (bytes_eq (codes "schedule") name) (bytes_eq (codes "replay") name) (bytes_eq (codes "check") name) (bytes_eq (codes "make") name) (bytes_eq (codes "stress") name) refl refl

@@ -10,7 +10,8 @@ use Rattle.clap.specs.Walk.{Held, Names, Rule, Step, Text, Waiting, Walk, after_
 use Rattle.clap.specs.Simple.{Shape}
 use Rattle.clap.specs.Kinds.{Kinds, or_else}
 use Rattle.clap.specs.Faults.{bundle_fault, flag_word_fault, long_fault, other_fault, positional_fault, settle_fault, step_fault, stray_fault, turn_fault, use_fault, word_fault}
-use Rattle.command_words.specs.Reading.{Word, Form, is_fit, is_given}
+use Rattle.said_values.specs.Values.{Word}
+use Rattle.command_words.specs.Reading.{Form, is_fit, is_given}
 use Rattle.command_words.proofs.Rules.{built_form, first_passes, option_rule, place_rule, plain_rule, rows_of, rules_of, second_fails, used_first}
 
 -- some kind of error comes

@@ -1,4 +1,3 @@
-pub mod Number
 pub mod Parser
 pub mod Reading
 pub mod Said

@@ -5,11 +5,10 @@ use Rattle.std.specs.List.{list_any, after_first}
 use Rattle.std.specs.Option.{option_map_or}
 use Rattle.clap.specs.Words.{App, Rule, new_app, new_rule, with_rule, with_subcommand}
 use Rattle.clap.specs.Simple.{on_top}
-use Rattle.std.specs.Str.{bytes_eq}
-use Rattle.clap.specs.Walk.{Row, first_of, is_empty}
-use Rattle.command_words.specs.Reading.{Word, Form, is_fit, is_equals}
-use Rattle.command_words.specs.Said.{run_form, run_of, schedule_form, schedule_of, replay_form, replay_of, check_form, check_of, make_form, make_of, stress_form, stress_of}
-use Rattle.command_words.specs.declared.command.Command.{Command}
+use Rattle.clap.specs.Walk.{is_empty}
+use Rattle.said_values.specs.Values.{Word}
+use Rattle.command_words.specs.Reading.{Form, is_fit, is_equals}
+use Rattle.command_words.specs.Said.{run_form, schedule_form, replay_form, check_form, make_form, stress_form}
 
 -- a place, which has to have its word
 abbrev pub told_place : Word → Rule
@@ -62,19 +61,3 @@ is_readable_option text = if list_any is_equals text then is_fit (after_first is
 -- the word is fit or looks like an option with a fit value, so that the parser reads it by the rules
 abbrev pub is_readable : Word → Bool
 is_readable word = is_fit word || option_map_or is_readable_option (behind_dashes word) false
-
--- the command of that name, of what its places and options are given
-abbrev pub command_named : Word → (Word → Option Word) → Option Command
-command_named title given =
-    if bytes_eq (codes "run") title then run_of given
-    else if bytes_eq (codes "schedule") title then schedule_of given
-    else if bytes_eq (codes "replay") title then replay_of given
-    else if bytes_eq (codes "check") title then check_of given
-    else if bytes_eq (codes "make") title then make_of given
-    else if bytes_eq (codes "stress") title then stress_of given
-    else None
-
--- the command that the parser found, with the rows of what it is given
-abbrev pub found_command : Option (Word × List Row) → Option Command
-found_command None = None
-found_command (Some found) = command_named found.0 (λ name. first_of name found.1)

@@ -3,10 +3,7 @@ use Rattle.std.specs.Prelude.{ℕ, List, [], ◌∷◌, ◌++◌, Bool, false, �
 use Rattle.std.specs.Prelude.{if◌then◌else◌, find, option_map, option_and_then, codes}
 use Rattle.std.specs.List.{list_all, list_any, before_first, after_first}
 use Rattle.std.specs.Str.{bytes_eq}
-
--- a word, or the name of a place or of an option, by its bytes
-abbrev pub Word : Type 0
-Word = List ℕ
+use Rattle.said_values.specs.Values.{Word}
 
 -- what a command takes: words in places, one for each in this order, and options
 pub record Form : Type 0 where

@@ -3,17 +3,16 @@ ghost use Rattle.std.specs.List.{list_all, position};
 ghost use Rattle.std.specs.String.{string_bytes};
 ghost use Rattle.clap.specs.Words.{fault_of, kind_of, subcommand_of, subcommand_rows_of};
 ghost use Rattle.clap.specs.declared.error.ErrorKind.TheVariants.{OutOfMemory};
-ghost use Rattle.command_words.specs.Said.{Reads, command_of};
+ghost use Rattle.said_commands.specs.Said.{Reads};
+ghost use Rattle.command_words.specs.Said.{command_of};
 ghost use Rattle.command_words.specs.Parser.{is_readable, is_readable_option, told};
 ghost use Rattle.command_words.specs.Reading.{is_equals, is_fit};
-ghost use Rattle.command_words.specs.declared.words_no.WordsNo.TheVariants.{Usage};
+ghost use Rattle.said_commands.specs.declared.words_no.WordsNo.TheVariants.{Usage};
 
-use crate::command::Command;
 use crate::parser::parser;
-use crate::said::said;
-use crate::words_no::WordsNo;
 use clap::error::ErrorKind;
 use clap::{ArgMatches, Error};
+use said_commands::{Command, WordsNo, said_command};
 use std::alloc::Global;
 
 /// The command that the words say, and `Usage` where they are no command line. The program's own name is not among the
@@ -25,7 +24,7 @@ pub fn read_words(alloc: Global, words: &[String]) -> Result<Command, WordsNo>
         return Err(WordsNo::Usage);
     }
     let matches = parse(alloc, words)?;
-    said(alloc, &matches)
+    said_command(alloc, &matches)
 }
 
 /// What the parser finds in the words, and `Usage` where it refuses them.

@@ -13,5 +13,5 @@ returns-in_err-matches c =
 
 pub returns : goal.returns
 returns c =
-    reads_said c.args.words.now (sym c.are_readable.ensures ∙ c.if-not-are_readable.false) (subcommand_rows_of c.in_ok-matches.matches) c.said.result
-    c.in_ok-matches.ensures.ok c.said.ensures
+    reads_said c.args.words.now (sym c.are_readable.ensures ∙ c.if-not-are_readable.false) (subcommand_rows_of c.in_ok-matches.matches) c.said_command.result
+    c.in_ok-matches.ensures.ok c.said_command.ensures

@@ -1,5 +1,5 @@
 ghost use Rattle.std.specs.Prelude.{◌≡◌, ◌≤◌, ◌^◌, Some, IfSome, IfNone};
-ghost use Rattle.command_words.specs.Number.{has_no_needless_zero, is_number, number_of};
+ghost use Rattle.said_values.specs.Number.{has_no_needless_zero, is_number, number_of};
 ghost use Rattle.std.specs.Char.{is_ascii_digit};
 ghost use Rattle.std.specs.List.{list_all};
 

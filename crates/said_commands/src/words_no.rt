@@ -1,5 +1,5 @@
 ghost use Rattle.std.specs.Prelude.{◌≡◌};
-ghost use Rattle.command_words.specs.declared.words_no.WordsNo.TheVariants.{Memory};
+ghost use Rattle.said_commands.specs.declared.words_no.WordsNo.TheVariants.{Memory};
 
 use std::alloc::AllocError;
 use thiserror::Error;

@@ -1,7 +1,7 @@
 use Rattle.std.proofs.Common.{rules, ◌∙◌}
 use Rattle.clap.specs.Words.{first_value, found_of}
-use Rattle.command_words.proofs.NumberLemmas.{limits_beyond}
-use Rattle.command_words.proofs.said.limits.Goals as goal
+use Rattle.said_values.proofs.NumberLemmas.{limits_beyond}
+use Rattle.said_values.proofs.values.limits.Goals as goal
 
 pub returns-in_err-units : goal.returns-in_err-units
 returns-in_err-units c =

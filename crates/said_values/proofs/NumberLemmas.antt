@@ -11,11 +11,11 @@ use Rattle.std.proofs.lemmas.Bool.Decides.{nat_tests}
 use Rattle.std.proofs.Common.{inl, inr, subst}
 use Rattle.std.specs.Prelude.{option_and_then, codes}
 use Rattle.std.proofs.lemmas.Bool.{and_right, cases_lt}
-use Rattle.command_words.specs.Said.{budget_of, limits_of, number_between, number_or, within}
+use Rattle.said_values.specs.Values.{budget_of, limits_of, number_between, number_or, within}
 use Rattle.serial_model.specs.Limits.{default_budget}
-use Rattle.command_words.specs.Number.{is_number, number_of, has_no_needless_zero}
+use Rattle.said_values.specs.Number.{is_number, number_of, has_no_needless_zero}
 
-pub both : (a b : Bool) → (a && b) ≡ true → (a ≡ true) × (b ≡ true)
+both : (a b : Bool) → (a && b) ≡ true → (a ≡ true) × (b ≡ true)
 both true b h = (refl, h)
 both false b h = absurd (true≢false (sym h))
 

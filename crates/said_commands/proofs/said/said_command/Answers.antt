@@ -1,6 +1,6 @@
 use Rattle.clap.specs.Words.{found_of}
-use Rattle.command_words.proofs.Found.{reads_found}
-use Rattle.command_words.proofs.said.said.Goals as goal
+use Rattle.said_commands.proofs.FoundCommand.{reads_found}
+use Rattle.said_commands.proofs.said.said_command.Goals as goal
 
 pub returns-in-Some : goal.returns-in-Some
 returns-in-Some c =

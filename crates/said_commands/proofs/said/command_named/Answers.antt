@@ -1,6 +1,6 @@
 use Rattle.std.proofs.Common.{refl, codes}
-use Rattle.command_words.proofs.Refused.{other_name}
-use Rattle.command_words.proofs.said.command_named.Goals as goal
+use Rattle.said_commands.proofs.OtherNames.{other_name}
+use Rattle.said_commands.proofs.said.command_named.Goals as goal
 
 pub returns-in_default : goal.returns-in_default
 returns-in_default c =

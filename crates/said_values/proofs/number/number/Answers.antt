@@ -1,7 +1,7 @@
 use Rattle.std.proofs.Common.{rules, sym, subst, IfNone, IfSome, ◌≤◌, ◌^◌}
-use Rattle.command_words.specs.Number.{number_of}
-use Rattle.command_words.proofs.NumberLemmas.{beyond}
-use Rattle.command_words.proofs.number.number.Goals as goal
+use Rattle.said_values.specs.Number.{number_of}
+use Rattle.said_values.proofs.NumberLemmas.{beyond}
+use Rattle.said_values.proofs.number.number.Goals as goal
 
 pub returns-then-is_number-clause-none : goal.returns-then-is_number-clause-none
 returns-then-is_number-clause-none c =

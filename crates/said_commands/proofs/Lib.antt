@@ -1,0 +1,2 @@
+pub mod FoundCommand
+pub mod OtherNames
