@@ -1,7 +1,6 @@
 -- How a run comes from state to state by the requests of a unit.
-use Rattle.std.proofs.Common.{◌≡◌, ◌∙◌, ℕ, suc, Bool, true, false, List, refl, sym, ap, subst, Option, Some, None}
+use Rattle.std.proofs.Common.{◌≡◌, ◌∙◌, ℕ, suc, Bool, true, false, List, sym, ap, subst, Option, Some, None}
 use Rattle.std.specs.Prelude.{◌==◌, if◌then◌else◌}
-use Rattle.std.proofs.lemmas.Bool.{eqb-true, eqb-false}
 use Rattle.value_core.specs.declared.value.Value.{Value}
 use Rattle.serial_model.specs.declared.end.End.TheVariants as end
 use Rattle.serial_model.specs.declared.effect.Effect.{Effect}
@@ -67,20 +66,6 @@ pub is_allowed : (setup : Setup) (name : Name) (old new : Now) (make : UnitState
 is_allowed setup name old new make more does before s unit at there =
     subst (λ (b : Bool). IsNow setup before new (if b then ended s end.UnitsSpent else make unit (record s { made = suc s.made })))
     (sym (subst (λ (t : State). (t.made == setup.limits.units) ≡ false) at.is more)) (does before s unit at there)
-
-pub full_is : (a b : ℕ) → a ≡ b → (a == b) ≡ true
-full_is a b same = on (a == b) refl
-  where
-    on : (t : Bool) → (a == b) ≡ t → (a == b) ≡ true
-    on true is = is
-    on false is = absurd (eqb-false a b is same)
-
-pub more_is : (a b : ℕ) → ¬ (a ≡ b) → (a == b) ≡ false
-more_is a b apart = on (a == b) refl
-  where
-    on : (t : Bool) → (a == b) ≡ t → (a == b) ≡ false
-    on true is = absurd (apart (eqb-true a b is))
-    on false is = is
 
 -- the written refs are set
 pub refs_over : (setup : Setup) (old new : Now) (writes : Named Value) → new ≡ record old { refs = new.refs } → new.refs.entries ≡ over writes old.refs.entries

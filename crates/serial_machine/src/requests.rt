@@ -14,6 +14,7 @@ use core_syntax::{NodeId, Program};
 use serial_model::{End, Limits};
 use serial_units::Becoming;
 use std::alloc::{AllocError, Global};
+use unit_limit::are_units_spent;
 use value_core::name_map::find;
 use value_core::{Code, Name, Place, Text, Value, Values};
 
@@ -83,7 +84,7 @@ impl Now {
         ensures { OnOk result (Does (record { program = program.now; limits = limits }) name.now self.old self.new (λ s unit.
             row.if_allowed (record { program = program.now; limits = limits }) s (λ s. row.gets (row.with_unit s (row.next_made name.now unit) (new_unit None body values)) name.now (row.with_made unit) (value.Future (row.next_made name.now unit))))) }
     {
-        if self.made == limits.units() {
+        if are_units_spent(limits, self.made) {
             self.end_with(End::UnitsSpent);
             return Ok(());
         }

@@ -12,6 +12,7 @@ use core_syntax::{NodeId, Program};
 use serial_model::{ActorState, End, Limits};
 use std::alloc::{AllocError, Global};
 use std::collections::BTreeMap;
+use unit_limit::are_units_spent;
 use value_core::name_map::find;
 use value_core::{Name, Values};
 
@@ -124,7 +125,7 @@ impl Now {
         if !self.queues.has_message(actor, sender) {
             return Ok(false);
         }
-        if self.made == limits.units() {
+        if are_units_spent(limits, self.made) {
             self.end_with(End::UnitsSpent);
             return Ok(true);
         }

@@ -3,16 +3,15 @@ use Rattle.std.specs.Option.{option_and_then}
 use Rattle.value_core.specs.Named.{named}
 use Rattle.serial_model.specs.Step as row
 use Rattle.serial_machine.specs.Now.{Steps}
-use Rattle.serial_machine.proofs.UnitRequests.{full_is, more_is}
 use Rattle.serial_machine.proofs.ActorTurns.{units_spent, turn_begins, within}
 use Rattle.serial_machine.proofs.Transactions.{done_so}
 use Rattle.serial_machine.proofs.now.Now.take.Goals as goal
 
-pub returns-then-self-units : goal.returns-then-self-units
-returns-then-self-units c =
+pub returns-then-are_units_spent : goal.returns-then-are_units_spent
+returns-then-are_units_spent c =
     let known = within c.args.program.now.behaviours c.in-Some.behaviour (let far = c.if-behaviours-behaviour.false in let is = c.behaviours.ensures in omega (arith, far, is)) in
     units_spent (record { program = c.args.program.now; limits = c.args.limits }) c.args.actor.now c.args.sender.now c.args.self.now c.in-Some.behaviour (sym c.idle_behaviour.ensures ∙ c.in-Some.is) known.0 known.1
-    (sym c.has_message.ensures ∙ c.if-not-has_message.false) c.end_with.new.self (full_is c.args.self.now.made c.args.limits.units (c.if-self-units.true ∙ c.units.ensures.value)) (c.end_with.ensures _)
+    (sym c.has_message.ensures ∙ c.if-not-has_message.false) c.end_with.new.self (sym c.are_units_spent.ensures ∙ c.if-are_units_spent.true) (c.end_with.ensures _)
 
 pub returns : goal.returns
 returns c = done_so c.done.result c.begin_turn.result _
@@ -21,4 +20,4 @@ returns c = done_so c.done.result c.begin_turn.result _
     c.done.ensures.done c.done.ensures.did c.begin_turn.ensures (λ begins.
     let known = within c.args.program.now.behaviours c.in-Some.behaviour (let far = c.if-behaviours-behaviour.false in let is = c.behaviours.ensures in omega (arith, far, is)) in
     turn_begins (record { program = c.args.program.now; limits = c.args.limits }) c.args.actor.now c.args.sender.now c.args.self.now c.in-Some.behaviour (sym c.idle_behaviour.ensures ∙ c.in-Some.is) known.0 known.1
-    (sym c.has_message.ensures ∙ c.if-not-has_message.false) c.begin_turn.new.self (more_is c.args.self.now.made c.args.limits.units (λ same. c.if-self-units.false (same ∙ sym c.units.ensures.value))) begins)
+    (sym c.has_message.ensures ∙ c.if-not-has_message.false) c.begin_turn.new.self (sym c.are_units_spent.ensures ∙ c.if-are_units_spent.false) begins)
