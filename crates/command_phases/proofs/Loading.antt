@@ -12,7 +12,7 @@ use Rattle.sexpr_reader.proofs.Refusals.{one_refusal}
 use Rattle.sexpr_reader.proofs.Unique.{one_spelling}
 use Rattle.sexpr_reader.specs.declared.source.TheConstants.{SOURCE_LIMIT}
 use Rattle.core_syntax.specs.Table.{Table}
-use Rattle.scope_check.specs.declared.error.ScopeKind.{ScopeKind}
+use Rattle.scope_refusals.specs.declared.kind.ScopeKind.{ScopeKind}
 use Rattle.scope_check.specs.Check.{IsProgram, IsRefused as IsScopeRefused}
 use Rattle.scope_check.proofs.Agreement.{refusal_once, never_both as scope_never, once as program_once}
 use Rattle.world_io.specs.Counts.{Rose}

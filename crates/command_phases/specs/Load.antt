@@ -8,7 +8,7 @@ use Rattle.sexpr_reader.specs.declared.error.ReadNo.{ReadNo}
 use Rattle.sexpr_reader.specs.declared.error.ReadNo.TheVariants as read
 use Rattle.sexpr_reader.specs.declared.form.Form.{Form}
 use Rattle.sexpr_reader.specs.Grammar.{IsSource, IsRefused}
-use Rattle.scope_check.specs.declared.error.ScopeKind.{ScopeKind}
+use Rattle.scope_refusals.specs.declared.kind.ScopeKind.{ScopeKind}
 use Rattle.scope_check.specs.declared.error.ScopeNo.{ScopeNo}
 use Rattle.scope_check.specs.declared.error.ScopeNo.TheVariants as scope
 use Rattle.scope_check.specs.Check.{IsProgram, IsRefused as IsScopeRefused}

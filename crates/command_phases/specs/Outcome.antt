@@ -6,8 +6,8 @@ use Rattle.world_io.specs.Seen.{SinkSeen}
 use Rattle.world_io.specs.Taken.{TookPrefix}
 use Rattle.sexpr_reader.specs.declared.error.ReadKind.{ReadKind}
 use Rattle.sexpr_reader.specs.Kinds as text
-use Rattle.scope_check.specs.declared.error.ScopeKind.{ScopeKind}
-use Rattle.scope_check.specs.Kinds as scope
+use Rattle.scope_refusals.specs.declared.kind.ScopeKind.{ScopeKind}
+use Rattle.scope_refusals.specs.Kinds as scope
 use Rattle.serial_model.specs.declared.end.End.{End}
 use Rattle.serial_model.specs.declared.end.End.TheVariants.{UnitsSpent}
 use Rattle.serial_model.specs.State.{Setup, State}

@@ -6,7 +6,7 @@ use Rattle.world_io.specs.Held.{told}
 use Rattle.world_io.specs.Taken.{TookPrefix, Said}
 use Rattle.sexpr_reader.specs.declared.error.ReadKind.{ReadKind}
 use Rattle.sexpr_reader.specs.Grammar.{IsRefused}
-use Rattle.scope_check.specs.declared.error.ScopeKind.{ScopeKind}
+use Rattle.scope_refusals.specs.declared.kind.ScopeKind.{ScopeKind}
 use Rattle.command_phases.specs.declared.outcome.Outcome.{Outcome}
 use Rattle.command_phases.specs.declared.outcome.Detail.{Detail}
 use Rattle.command_phases.specs.Lines.{line_of, line_begun, ended_line}

@@ -11,7 +11,7 @@ use Rattle.scope_names.specs.Shapes.{Global}
 use Rattle.scope_check.specs.declared.declared.Declared.{Declared}
 use Rattle.scope_check.specs.Check.{declared_in, resolved_in, tops_in, globals_in, wrong_in}
 use Rattle.scope_check.specs.Declaring.{declare_all, declare_shape, nothing}
-use Rattle.scope_check.specs.First.{first_of}
+use Rattle.scope_refusals.specs.First.{first_of}
 use Rattle.scope_check.specs.Tops.{TopsResolved, tops_of}
 use Rattle.made_programs.proofs.CoreTrees.{CoreTree, behind_third, core_of, first_in, place_of, third_of}
 use Rattle.made_programs.proofs.ExprTrees.{ExprTree}

@@ -4,8 +4,8 @@ use Rattle.core_syntax.specs.Table.{Table}
 use Rattle.value_core.specs.Place.{Spot}
 use Rattle.sexpr_reader.specs.declared.form.Form.{Form}
 use Rattle.program_plan.proofs.Agreement.{one_some, some_or_none, planned_once, unplanned_once, planned_or_not}
-use Rattle.scope_check.specs.declared.error.ScopeKind.{ScopeKind}
-use Rattle.scope_check.specs.declared.refusal.Refusal.{Refusal}
+use Rattle.scope_refusals.specs.declared.kind.ScopeKind.{ScopeKind}
+use Rattle.scope_refusals.specs.declared.refusal.Refusal.{Refusal}
 use Rattle.scope_check.specs.Check.{IsProgram, IsRefused, wrong, unplanned, kind_of}
 
 pub once : (forms : List Form) (table other : Table) → IsProgram forms table → IsProgram forms other → table ≡ other

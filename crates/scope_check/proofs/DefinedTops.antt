@@ -12,13 +12,13 @@ use Rattle.scope_check.specs.declared.declared.Declared.{Declared}
 use Rattle.scope_names.specs.declared.definition.Definition.{Definition}
 use Rattle.scope_names.specs.declared.definition.What.{What}
 use Rattle.scope_names.specs.declared.definition.What.TheVariants as what
-use Rattle.scope_check.specs.declared.refusal.Refusal.{Refusal}
+use Rattle.scope_refusals.specs.declared.refusal.Refusal.{Refusal}
 use Rattle.resolved_forms.specs.declared.top.Top.{Top}
 use Rattle.resolved_forms.specs.declared.top.TopKind.{TopKind}
 use Rattle.resolved_forms.specs.declared.top.TopKind.TheVariants as top
 use Rattle.scope_check.specs.Declaring.{nothing, taken, twice, with_function, with_behaviour, with_global, declare_shape, declare, declare_all}
 use Rattle.resolved_forms.specs.FormsInRange.{functions_behind, kind_params, kind_states, params_of, states_of}
-use Rattle.scope_check.specs.First.{first_from, first_of, sooner}
+use Rattle.scope_refusals.specs.First.{first_from, first_of, sooner}
 use Rattle.scope_names.specs.Names.{defined}
 use Rattle.scope_names.specs.Shapes.{Shape, Function, Behaviour, Global, Value, Malformed, shape_of}
 use Rattle.scope_check.specs.Tops.{shaped_top, top_of, tops_of}

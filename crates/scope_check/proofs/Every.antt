@@ -6,8 +6,8 @@ use Rattle.sexpr_reader.specs.declared.form.Form.{Form}
 use Rattle.program_plan.specs.declared.error.PlanKind.{PlanKind}
 use Rattle.program_plan.specs.Planned.{IsPlanned, IsUnplanned}
 use Rattle.program_plan.proofs.Every.{every_plan}
-use Rattle.scope_check.specs.declared.error.ScopeKind.{ScopeKind}
-use Rattle.scope_check.specs.declared.refusal.Refusal.{Refusal}
+use Rattle.scope_refusals.specs.declared.kind.ScopeKind.{ScopeKind}
+use Rattle.scope_refusals.specs.declared.refusal.Refusal.{Refusal}
 use Rattle.scope_check.specs.Check.{IsProgram, IsRefused, wrong, unplanned, tops_in, globals_in, wrong_in}
 
 abbrev Either : List Form → Type 0

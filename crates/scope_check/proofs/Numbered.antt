@@ -2,7 +2,7 @@
 use Rattle.std.proofs.Common.{◌≡◌, ◌∙◌, ℕ, suc, ◌+◌, Bool, true, false, List, [], ◌∷◌, ◌++◌, map, Option, None, Some, refl, sym, ap, subst, append_assoc, append-nil}
 use Rattle.std.specs.Prelude.{ℤ}
 use Rattle.value_core.specs.Place.{Spot}
-use Rattle.scope_check.specs.declared.error.ScopeKind.{ScopeKind}
+use Rattle.scope_refusals.specs.declared.kind.ScopeKind.{ScopeKind}
 use Rattle.resolved_forms.specs.declared.expr.Expr.{Expr}
 use Rattle.resolved_forms.specs.declared.expr.ExprKind.{ExprKind}
 use Rattle.resolved_forms.specs.declared.expr.ExprKind.TheOpen as one
@@ -10,7 +10,7 @@ use Rattle.resolved_forms.specs.declared.expr.ExprKind.TheVariants as expr
 use Rattle.resolved_forms.specs.declared.expr.Looping.{Looping}
 use Rattle.resolved_forms.specs.declared.head.Head.{Head}
 use Rattle.resolved_forms.specs.declared.head.Head.TheVariants as head
-use Rattle.scope_check.specs.declared.refusal.Refusal.{Refusal}
+use Rattle.scope_refusals.specs.declared.refusal.Refusal.{Refusal}
 use Rattle.scope_check.specs.declared.rule.Rule.{Rule}
 use Rattle.scope_check.specs.declared.rule.Rule.TheVariants as rule
 use Rattle.scope_check.specs.Heads.{taking, formed}

@@ -9,7 +9,7 @@ use Rattle.sugar.specs.declared.core_form.CoreKind.TheFolds.{fold-CoreKind, fold
 use Rattle.sugar.specs.declared.core_form.CoreKind.TheViews.{roll-Core, roll-CoreKind}
 use Rattle.scope_names.specs.declared.definition.Definition.{Definition}
 use Rattle.scope_names.specs.declared.definition.What.TheVariants as what
-use Rattle.scope_check.specs.declared.error.ScopeKind.TheVariants.{Unknown, BadForm}
+use Rattle.scope_refusals.specs.declared.kind.ScopeKind.TheVariants.{Unknown, BadForm}
 use Rattle.resolved_forms.specs.declared.expr.ExprKind.TheVariants as expr
 use Rattle.scope_names.specs.declared.found.Found.{Found}
 use Rattle.scope_names.specs.declared.found.Found.TheVariants as found

@@ -3,7 +3,7 @@ use Rattle.std.proofs.Common.{◌≡◌, ◌∙◌, ℕ, suc, ◌+◌, Bool, tru
 use Rattle.std.specs.Prelude.{IfSome}
 use Rattle.value_core.specs.Place.{Spot}
 use Rattle.scope_names.specs.declared.definition.Definition.{Definition}
-use Rattle.scope_check.specs.declared.error.ScopeKind.{ScopeKind}
+use Rattle.scope_refusals.specs.declared.kind.ScopeKind.{ScopeKind}
 use Rattle.resolved_forms.specs.declared.head.Head.{Head}
 use Rattle.resolved_forms.specs.declared.head.Head.TheVariants as head
 use Rattle.resolved_forms.specs.InRange.{Signatures, apply, as_deep, more, nil, none, one_deeper}

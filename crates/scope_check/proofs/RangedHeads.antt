@@ -10,7 +10,7 @@ use Rattle.value_core.specs.primitives.Words.{takes_of}
 use Rattle.scope_names.specs.declared.definition.Definition.{Definition}
 use Rattle.scope_names.specs.declared.definition.What.{What}
 use Rattle.scope_names.specs.declared.definition.What.TheVariants as what
-use Rattle.scope_check.specs.declared.error.ScopeKind.TheVariants.{Unknown, Arity, BadForm}
+use Rattle.scope_refusals.specs.declared.kind.ScopeKind.TheVariants.{Unknown, Arity, BadForm}
 use Rattle.scope_names.specs.declared.found.Found.{Found}
 use Rattle.scope_names.specs.declared.found.Found.TheVariants as found
 use Rattle.resolved_forms.specs.declared.head.Head.{Head}

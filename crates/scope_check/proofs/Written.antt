@@ -5,10 +5,10 @@ use Rattle.value_core.specs.Place.{Spot}
 use Rattle.sugar.specs.declared.core_form.Core.{Core}
 use Rattle.scope_check.specs.declared.declared.Declared.{Declared}
 use Rattle.scope_names.specs.declared.definition.Definition.{Definition}
-use Rattle.scope_check.specs.declared.refusal.Refusal.{Refusal}
+use Rattle.scope_refusals.specs.declared.refusal.Refusal.{Refusal}
 use Rattle.resolved_forms.specs.declared.top.Top.{Top}
 use Rattle.scope_check.specs.Declaring.{taken, twice, with_function, with_behaviour, with_global, declare_shape, declare, declare_all}
-use Rattle.scope_check.specs.First.{first_from, first_of, sooner}
+use Rattle.scope_refusals.specs.First.{first_from, first_of, sooner}
 use Rattle.scope_names.specs.Shapes.{Shape, Function, Behaviour, Global, Value, Malformed, shape_of}
 use Rattle.scope_check.specs.Tops.{shaped_top, top_of, tops_of}
 use Rattle.resolved_forms.specs.FormsInRange.{functions_behind}

@@ -12,13 +12,13 @@ use Rattle.resolved_forms.specs.declared.top.Top.{Top}
 use Rattle.program_plan.specs.Planned.{IsPlanned, IsUnplanned}
 use Rattle.scope_check.specs.declared.checking.Found.{Found}
 use Rattle.scope_check.specs.declared.declared.Declared.{Declared}
-use Rattle.scope_check.specs.declared.error.ScopeKind.{ScopeKind}
-use Rattle.scope_check.specs.declared.error.ScopeKind.TheVariants.{EarlyGlobal, TooManyNodes}
+use Rattle.scope_refusals.specs.declared.kind.ScopeKind.{ScopeKind}
+use Rattle.scope_refusals.specs.declared.kind.ScopeKind.TheVariants.{EarlyGlobal, TooManyNodes}
 use Rattle.scope_check.specs.declared.error.ScopeNo.{ScopeNo}
 use Rattle.scope_check.specs.declared.error.ScopeNo.TheVariants.{Memory, Refused}
-use Rattle.scope_check.specs.declared.refusal.Refusal.{Refusal}
+use Rattle.scope_refusals.specs.declared.refusal.Refusal.{Refusal}
 use Rattle.scope_check.specs.Declaring.{declare_all, nothing}
-use Rattle.scope_check.specs.First.{first_of}
+use Rattle.scope_refusals.specs.First.{first_of}
 use Rattle.scope_check.specs.Resolved.{refusal}
 use Rattle.scope_check.specs.Tops.{TopsResolved, tops_of}
 

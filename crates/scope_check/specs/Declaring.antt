@@ -6,7 +6,7 @@ use Rattle.scope_check.specs.declared.declared.Declared.{Declared}
 use Rattle.scope_names.specs.declared.definition.Definition.{Definition}
 use Rattle.scope_names.specs.declared.definition.What.{What}
 use Rattle.scope_names.specs.declared.definition.What.TheVariants.{Function as function_what, Behaviour as behaviour_what, Global as global_what}
-use Rattle.scope_check.specs.declared.error.ScopeKind.TheVariants.{Twice}
+use Rattle.scope_refusals.specs.declared.kind.ScopeKind.TheVariants.{Twice}
 use Rattle.scope_names.specs.Names.{defined}
 use Rattle.scope_check.specs.Resolved.{refusal}
 use Rattle.scope_names.specs.Finding.{is_reserved}

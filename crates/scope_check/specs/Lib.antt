@@ -1,8 +1,6 @@
 pub mod Check
 pub mod Declaring
-pub mod First
 pub mod Heads
-pub mod Kinds
 pub mod Moves
 pub mod Parts
 pub mod ReadBack

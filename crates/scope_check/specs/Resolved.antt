@@ -1,12 +1,12 @@
 -- What a core form comes to where it stands.
 use Rattle.std.specs.Prelude.{ℕ, Bool, List, [], ◌∷◌, ◌++◌, Option}
 use Rattle.value_core.specs.Place.{Spot}
-use Rattle.scope_check.specs.declared.error.ScopeKind.{ScopeKind}
+use Rattle.scope_refusals.specs.declared.kind.ScopeKind.{ScopeKind}
 use Rattle.resolved_forms.specs.declared.expr.Expr.{Expr}
 use Rattle.resolved_forms.specs.declared.expr.ExprKind.{ExprKind}
 use Rattle.resolved_forms.specs.declared.expr.ExprKind.TheVariants as expr
 use Rattle.resolved_forms.specs.InRange.{expr_at}
-use Rattle.scope_check.specs.declared.refusal.Refusal.{Refusal}
+use Rattle.scope_refusals.specs.declared.refusal.Refusal.{Refusal}
 use Rattle.scope_check.specs.Scope.{Scope}
 
 -- the expression, the number of the next loop, and what is wrong

@@ -3,8 +3,8 @@ use Rattle.std.specs.Prelude.{ℕ, false, true, List, [], ◌∷◌, ◌++◌, l
 use Rattle.value_core.specs.Place.{Spot}
 use Rattle.sugar.specs.declared.core_form.Core.{Core}
 use Rattle.scope_names.specs.declared.definition.Definition.{Definition}
-use Rattle.scope_check.specs.declared.error.ScopeKind.TheVariants.{BadForm}
-use Rattle.scope_check.specs.declared.refusal.Refusal.{Refusal}
+use Rattle.scope_refusals.specs.declared.kind.ScopeKind.TheVariants.{BadForm}
+use Rattle.scope_refusals.specs.declared.refusal.Refusal.{Refusal}
 use Rattle.scope_check.specs.declared.stand.Stand.{Stand}
 use Rattle.resolved_forms.specs.declared.top.Top.{Top}
 use Rattle.resolved_forms.specs.declared.top.TopKind.{TopKind}

@@ -7,8 +7,8 @@ use Rattle.sugar.specs.declared.core_form.Core.{Core}
 use Rattle.sugar.specs.declared.core_form.CoreKind.TheOpen as one
 use Rattle.sugar.specs.declared.core_form.CoreKind.TheFolds.{fold-Core}
 use Rattle.scope_names.specs.declared.definition.What.TheVariants as what
-use Rattle.scope_check.specs.declared.error.ScopeKind.{ScopeKind}
-use Rattle.scope_check.specs.declared.error.ScopeKind.TheVariants.{Unknown, Arity, BadForm}
+use Rattle.scope_refusals.specs.declared.kind.ScopeKind.{ScopeKind}
+use Rattle.scope_refusals.specs.declared.kind.ScopeKind.TheVariants.{Unknown, Arity, BadForm}
 use Rattle.resolved_forms.specs.declared.expr.ExprKind.{ExprKind}
 use Rattle.resolved_forms.specs.declared.expr.ExprKind.TheVariants as expr
 use Rattle.scope_names.specs.declared.found.Found.{Found}

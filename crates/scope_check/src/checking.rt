@@ -6,13 +6,12 @@ ghost use Rattle.scope_check.specs.Check.{IsFound, IsProgram, IsRefused, Refused
 
 use crate::declared::{Declared, declare_all};
 use crate::error::{ScopeNo, refused, scope_no};
-use crate::first::first;
-use crate::refusal::Refusal;
 use crate::resolver::Resolver;
 use core_syntax::Program;
 use program_plan::plan;
 use resolved_forms::TopForms;
 use scope_names::Locals;
+use scope_refusals::{Refusal, first};
 use sexpr_reader::Forms;
 use std::alloc::{AllocError, Global};
 use sugar::expand;

@@ -2,10 +2,9 @@ ghost use Rattle.std.specs.Prelude.{◌≡◌, ◌+◌, if◌then◌else◌, IfO
 ghost use Rattle.scope_check.specs.Declaring.{declare, declare_all, declare_shape, taken, twice, with_function, with_behaviour, with_global, nothing};
 ghost use Rattle.scope_names.specs.Finding.{is_reserved};
 
-use crate::error::ScopeKind;
-use crate::refusal::{Refusal, Refusals};
 use core_syntax::{as_number, sum_of};
 use scope_names::{Names, Shape, What, is_reserved, shape_of};
+use scope_refusals::{Refusal, Refusals, ScopeKind};
 use std::alloc::{AllocError, Global};
 use sugar::{Core, Tops};
 use value_core::lists::add;

@@ -2,7 +2,7 @@ ghost use Rattle.std.specs.Prelude.{◌≡◌, ◌⊎◌, List};
 ghost use Rattle.core_syntax.specs.Table.{Table};
 ghost use Rattle.value_core.specs.Place.{Spot};
 ghost use Rattle.sexpr_reader.specs.declared.form.Form.{Form};
-ghost use Rattle.scope_check.specs.declared.error.ScopeKind.{ScopeKind};
+ghost use Rattle.scope_refusals.specs.declared.kind.ScopeKind.{ScopeKind};
 ghost use Rattle.scope_check.specs.Check.{IsProgram, IsRefused};
 ghost use Rattle.scope_check.specs.ReadBack.{ReadsBack};
 

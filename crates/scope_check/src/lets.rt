@@ -6,11 +6,11 @@ ghost use Rattle.resolved_forms.specs.InRange.{expr_at};
 ghost use Rattle.scope_check.specs.Scope.{inner};
 ghost use Rattle.scope_check.specs.Value.{meaning, meanings};
 
-use crate::error::ScopeKind;
 use crate::resolver::{Resolver, expr_at};
 use crate::stand::{Stand, Target};
 use core_syntax::as_number;
 use resolved_forms::{Expr, ExprKind, Exprs, Looping};
+use scope_refusals::ScopeKind;
 use std::alloc::AllocError;
 use sugar::{Core, CoreKind};
 use value_core::lists::add;

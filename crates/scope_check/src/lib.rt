@@ -4,11 +4,9 @@
 mod checking;
 mod declared;
 mod error;
-mod first;
 mod laws;
 mod lets;
 mod lists;
-mod refusal;
 mod resolver;
 mod rule;
 mod stand;
@@ -16,5 +14,6 @@ mod start;
 mod tops;
 
 pub use checking::check;
-pub use error::{ScopeKind, ScopeNo};
+pub use error::ScopeNo;
 pub use laws::{every_source, program_once, program_or_refused, reads_back, refused_once};
+pub use scope_refusals::ScopeKind;

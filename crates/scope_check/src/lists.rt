@@ -8,13 +8,13 @@ ghost use Rattle.scope_names.specs.Finding.{find};
 ghost use Rattle.scope_names.specs.Special.{special_of};
 ghost use Rattle.scope_check.specs.Value.{meaning, meanings};
 
-use crate::error::ScopeKind;
 use crate::resolver::{Resolver, expr_at, go_by_turns};
 use crate::rule::Rule;
 use crate::stand::Stand;
 use crate::start::Start;
 use resolved_forms::{Expr, ExprKind, Exprs, Head};
 use scope_names::{Found, Special, What, op_with, special_named};
+use scope_refusals::ScopeKind;
 use std::alloc::AllocError;
 use sugar::Core;
 use value_core::Place;

@@ -8,14 +8,13 @@ ghost use Rattle.resolved_forms.specs.InRange.{expr_at};
 ghost use Rattle.scope_names.specs.Finding.{find, found_reserved, is_reserved};
 ghost use Rattle.scope_check.specs.Value.{meaning, meanings, found_value, map_of, bad_kind};
 
-use crate::error::ScopeKind;
-use crate::refusal::{Refusal, Refusals};
 use crate::rule::Rule;
 use crate::stand::Stand;
 use core_syntax::sum_of;
 use itoa::Buffer;
 use resolved_forms::{Expr, ExprKind, Exprs, Head};
 use scope_names::{Found, Locals, Names, What, find};
+use scope_refusals::{Refusal, Refusals, ScopeKind};
 use std::alloc::{AllocError, Global};
 use sugar::{BadKind, Core, CoreKind};
 use value_core::lists::add;

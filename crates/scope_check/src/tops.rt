@@ -6,12 +6,12 @@ ghost use Rattle.scope_check.specs.Tops.{parameters, function_top, behaviour_top
 ghost use Rattle.resolved_forms.specs.FormsInRange.{functions_behind};
 ghost use Rattle.scope_check.specs.Value.{meaning, meanings};
 
-use crate::error::ScopeKind;
 use crate::resolver::{Resolver, nil_at};
 use crate::stand::{Stand, Target};
 use core_syntax::{as_number, sum_of};
 use resolved_forms::{Reacting, Top, TopForms, TopKind};
 use scope_names::{Reaction, Shape, shape_of};
+use scope_refusals::ScopeKind;
 use std::alloc::AllocError;
 use sugar::Core;
 use value_core::Place;

@@ -1,7 +1,7 @@
 -- The numbers of refusals of forms.
 use Rattle.std.specs.Prelude.{ℕ}
-use Rattle.scope_check.specs.declared.error.ScopeKind.{ScopeKind}
-use Rattle.scope_check.specs.declared.error.ScopeKind.TheVariants.{Unknown, Twice, Arity, BadForm, EarlyGlobal, TooManyNodes}
+use Rattle.scope_refusals.specs.declared.kind.ScopeKind.{ScopeKind}
+use Rattle.scope_refusals.specs.declared.kind.ScopeKind.TheVariants.{Unknown, Twice, Arity, BadForm, EarlyGlobal, TooManyNodes}
 
 -- the number of a refusal of the forms; at one place the lowest counts
 abbrev pub kind_number : ScopeKind → ℕ

@@ -1,5 +1,5 @@
 ghost use Rattle.std.specs.Prelude.{◌≡◌, Some};
-ghost use Rattle.scope_check.specs.First.{refusal_cmp, chosen, sooner, first_of};
+ghost use Rattle.scope_refusals.specs.First.{refusal_cmp, chosen, sooner, first_of};
 
 use crate::refusal::{Refusal, Refusals};
 use std::cmp::Ordering;

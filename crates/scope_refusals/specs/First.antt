@@ -3,8 +3,8 @@ use Rattle.std.specs.Prelude.{List, [], ◌∷◌, Option, None, Some}
 use Rattle.std.specs.declared.cmp.Ordering.{Ordering}
 use Rattle.std.specs.declared.cmp.Ordering.TheVariants.{Less}
 use Rattle.std.specs.Ordering.{nat_cmp, on, then_cmp}
-use Rattle.scope_check.specs.declared.refusal.Refusal.{Refusal}
-use Rattle.scope_check.specs.Kinds.{kind_number}
+use Rattle.scope_refusals.specs.declared.refusal.Refusal.{Refusal}
+use Rattle.scope_refusals.specs.Kinds.{kind_number}
 
 -- by line, then by column, then by number
 unfoldable pub refusal_cmp : Refusal → Refusal → Ordering

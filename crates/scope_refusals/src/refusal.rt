@@ -1,4 +1,4 @@
-use crate::error::ScopeKind;
+use crate::kind::ScopeKind;
 use value_core::{Place, Seq};
 
 /// What is wrong, and where.
