@@ -11,7 +11,7 @@ use Rattle.resolved_forms.specs.declared.top.Top.{Top}
 use Rattle.resolved_forms.specs.declared.top_survey.FormSurvey.{FormSurvey}
 use Rattle.resolved_forms.specs.declared.top_survey.TopSurvey.{TopSurvey}
 use Rattle.resolved_forms.specs.declared.uses.Uses.{Uses}
-use Rattle.resolved_forms.specs.Early.{first_early, some_unbound}
+use Rattle.early_globals.specs.Early.{first_early, some_unbound}
 use Rattle.resolved_forms.specs.Reach.{Reaches, AreReached}
 use Rattle.resolved_forms.specs.TopSurvey.{behaviours_among, both_tops, form_at, is_behaviour, no_tops, tops_from, tops_surveyed}
 use Rattle.resolved_forms.specs.Units.{all_units}

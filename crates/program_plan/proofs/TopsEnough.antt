@@ -13,12 +13,12 @@ use Rattle.resolved_forms.specs.declared.top.TopKind.{TopKind}
 use Rattle.resolved_forms.specs.declared.top.TopKind.TheVariants as top
 use Rattle.resolved_forms.specs.declared.top_survey.FormSurvey.{FormSurvey}
 use Rattle.resolved_forms.specs.declared.uses.Uses.{Uses}
-use Rattle.resolved_forms.specs.Early.{IsEarly, is_early, first_early}
+use Rattle.early_globals.specs.Early.{IsEarly, is_early, first_early}
 use Rattle.resolved_forms.specs.Survey.{surveyed}
 use Rattle.resolved_forms.specs.FormsInRange.{functions_behind, params_of, states_of}
 use Rattle.resolved_forms.specs.TopSurvey.{tops_from}
 use Rattle.resolved_forms.specs.Uses.{function_unit}
-use Rattle.resolved_forms.proofs.EarlyForms.{early_is}
+use Rattle.early_globals.proofs.EarlyForms.{early_is}
 use Rattle.program_plan.proofs.Fine.{inside_of}
 use Rattle.program_plan.proofs.FineTops.{FineTop, FineTops, none, more, top_entries, tops_entries}
 use Rattle.resolved_forms.proofs.Members.{none_in}

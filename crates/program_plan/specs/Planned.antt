@@ -8,7 +8,7 @@ use Rattle.program_plan.specs.declared.error.PlanNo.{PlanNo}
 use Rattle.program_plan.specs.declared.error.PlanNo.TheVariants.{Memory, Refused}
 use Rattle.resolved_forms.specs.declared.layout.Layout.{Layout}
 use Rattle.resolved_forms.specs.declared.top.Top.{Top}
-use Rattle.resolved_forms.specs.Early.{first_early}
+use Rattle.early_globals.specs.Early.{first_early}
 use Rattle.program_plan.specs.Lowered.{first_past, program_of}
 use Rattle.resolved_forms.specs.Units.{all_units, layout_of}
 use Rattle.resolved_forms.specs.Reach.{AreReached}

@@ -10,7 +10,8 @@ ghost use Rattle.value_core.specs.primitives.Words.{takes_of};
 use crate::error::{PlanKind, PlanNo, refused};
 use crate::lower::lower;
 use core_syntax::Program;
-use resolved_forms::{TopForms, TopSurvey, all_units, first_early, lay_out, reached, survey_tops};
+use early_globals::first_early;
+use resolved_forms::{TopForms, TopSurvey, all_units, lay_out, reached, survey_tops};
 use std::alloc::{AllocError, Global};
 use value_core::Seq;
 

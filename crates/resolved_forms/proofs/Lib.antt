@@ -1,4 +1,3 @@
-pub mod EarlyForms
 pub mod Hiding
 pub mod LoopNumbers
 pub mod Members

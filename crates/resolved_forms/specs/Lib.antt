@@ -1,4 +1,3 @@
-pub mod Early
 pub mod FormsInRange
 pub mod InRange
 pub mod Reach

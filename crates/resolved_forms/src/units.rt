@@ -121,8 +121,8 @@ fn push_hidden(
     add(hidden, one)
 }
 
-/// The list of that unit.
-pub(crate) fn list_of(reached: &[Seq<u32>], unit: u32) -> &[u32]
+/// The globals that the unit with that number reaches, by these lists. A unit without a list reaches none.
+pub fn list_of(reached: &[Seq<u32>], unit: u32) -> &[u32]
     ensures { result.now ≡ get_or reached.now unit [] }
 {
     match reached.get(unit as usize) {

@@ -1,6 +1,6 @@
 use Rattle.std.proofs.Common.{◌≡◌, None, Some, sym, ap, subst, ◌∙◌}
 use Rattle.std.specs.Prelude.{IfErr}
-use Rattle.resolved_forms.specs.Early.{first_early}
+use Rattle.early_globals.specs.Early.{first_early}
 use Rattle.program_plan.specs.Lowered as lowered
 use Rattle.resolved_forms.specs.Units.{layout_of}
 use Rattle.program_plan.specs.Planned.{early, early_in, layout_in}

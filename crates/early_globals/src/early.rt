@@ -1,8 +1,7 @@
 ghost use Rattle.std.specs.Prelude.{◌≡◌};
-ghost use Rattle.resolved_forms.specs.Early.{some_unbound, reaches_unbound, is_early, first_early};
+ghost use Rattle.early_globals.specs.Early.{some_unbound, reaches_unbound, is_early, first_early};
 
-use crate::top_survey::{FormSurvey, TopSurvey};
-use crate::units::list_of;
+use resolved_forms::{FormSurvey, TopSurvey, list_of};
 use value_core::{Place, Seq};
 
 /// The place of the first form that main evaluates and that may need a global before it is bound: one that the form

@@ -6,7 +6,7 @@ use Rattle.std.proofs.lemmas.Bool.{or_cases, or_left, or_right}
 use Rattle.std.proofs.lemmas.Bool.Decides.{leb_tells}
 use Rattle.std.proofs.lemmas.List.Folds.{list_any_at}
 use Rattle.resolved_forms.specs.declared.top_survey.FormSurvey.{FormSurvey}
-use Rattle.resolved_forms.specs.Early.{IsEarly, some_unbound, reaches_unbound, is_early}
+use Rattle.early_globals.specs.Early.{IsEarly, some_unbound, reaches_unbound, is_early}
 
 -- an element that passes a test
 record Passing (p : ℕ → Bool) (xs : List ℕ) : Type 0 where
