@@ -15,7 +15,7 @@ use Rattle.early_globals.specs.Early.{first_early, some_unbound}
 use Rattle.resolved_forms.specs.Reach.{Reaches, AreReached}
 use Rattle.resolved_forms.specs.TopSurvey.{behaviours_among, both_tops, form_at, is_behaviour, no_tops, tops_from, tops_surveyed}
 use Rattle.resolved_forms.specs.Units.{all_units}
-use Rattle.program_plan.specs.declared.error.PlanKind.{PlanKind}
+use Rattle.plan_errors.specs.declared.error.PlanKind.{PlanKind}
 use Rattle.program_plan.specs.Lowered.{first_past, no_parts}
 use Rattle.program_plan.specs.Planned.{IsPlanned, IsUnplanned, Reached, early_in, layout_in}
 use Rattle.program_plan.proofs.Every.{every_plan}

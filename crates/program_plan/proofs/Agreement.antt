@@ -2,7 +2,7 @@
 use Rattle.std.proofs.Common.{◌≡◌, ℕ, List, Option, None, Some, refl, sym, ap, ◌∙◌}
 use Rattle.core_syntax.specs.Table.{Table}
 use Rattle.value_core.specs.Place.{Spot}
-use Rattle.program_plan.specs.declared.error.PlanKind.{PlanKind}
+use Rattle.plan_errors.specs.declared.error.PlanKind.{PlanKind}
 use Rattle.resolved_forms.specs.declared.top.Top.{Top}
 use Rattle.program_plan.specs.Lowered.{first_past, program_of}
 use Rattle.program_plan.specs.Planned.{IsPlanned, IsUnplanned, early, too_many, Reached, early_in, layout_in}

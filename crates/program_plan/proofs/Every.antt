@@ -6,7 +6,7 @@ use Rattle.std.proofs.lemmas.Bool.{cases_lt}
 use Rattle.std.proofs.lemmas.List.Elements.{Contains-append_left, Contains-push, Contains-push_cases}
 use Rattle.value_core.specs.Place.{Spot}
 use Rattle.core_syntax.specs.Table.{Table}
-use Rattle.program_plan.specs.declared.error.PlanKind.{PlanKind}
+use Rattle.plan_errors.specs.declared.error.PlanKind.{PlanKind}
 use Rattle.resolved_forms.specs.declared.top.Top.{Top}
 use Rattle.resolved_forms.specs.declared.uses.Uses.{Uses}
 use Rattle.program_plan.specs.Lowered.{first_past}

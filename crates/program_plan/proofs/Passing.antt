@@ -1,8 +1,8 @@
 -- A refusal for too many nodes is passed on.
 use Rattle.std.proofs.Common.{◌≡◌, ℕ, List, None, Some, Result, Ok, Err, sym, subst}
 use Rattle.std.specs.Prelude.{IfErr}
-use Rattle.program_plan.specs.declared.error.PlanNo.{PlanNo}
-use Rattle.program_plan.specs.declared.error.PlanNo.TheVariants.{Memory, Refused}
+use Rattle.plan_errors.specs.declared.error.PlanNo.{PlanNo}
+use Rattle.plan_errors.specs.declared.error.PlanNo.TheVariants.{Memory, Refused}
 use Rattle.resolved_forms.specs.declared.top.Top.{Top}
 use Rattle.program_plan.specs.Lowered as lowered
 use Rattle.program_plan.specs.Planned.{IsUnplanned, too_many, Reached, RefusedAs, early_in, layout_in}

@@ -8,9 +8,9 @@ use Rattle.core_syntax.specs.declared.node_id.NodeId.{NodeId}
 use Rattle.core_syntax.specs.declared.step.Step.{Step}
 use Rattle.core_syntax.specs.Limit.{node_limit}
 use Rattle.core_syntax.specs.Table.{Table, finished}
-use Rattle.program_plan.specs.declared.error.PlanKind.TheVariants.{TooManyNodes}
-use Rattle.program_plan.specs.declared.error.PlanNo.{PlanNo}
-use Rattle.program_plan.specs.declared.error.PlanNo.TheVariants.{Memory, Refused}
+use Rattle.plan_errors.specs.declared.error.PlanKind.TheVariants.{TooManyNodes}
+use Rattle.plan_errors.specs.declared.error.PlanNo.{PlanNo}
+use Rattle.plan_errors.specs.declared.error.PlanNo.TheVariants.{Memory, Refused}
 use Rattle.resolved_forms.specs.declared.expr.Expr.{Expr}
 use Rattle.resolved_forms.specs.declared.layout.Layout.{Layout}
 use Rattle.resolved_forms.specs.declared.top.Reacting.{Reacting}

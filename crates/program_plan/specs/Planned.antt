@@ -2,10 +2,10 @@
 use Rattle.std.specs.Prelude.{◌≡◌, ℕ, List, Option, None, Some}
 use Rattle.value_core.specs.Place.{Spot}
 use Rattle.core_syntax.specs.Table.{Table}
-use Rattle.program_plan.specs.declared.error.PlanKind.{PlanKind}
-use Rattle.program_plan.specs.declared.error.PlanKind.TheVariants.{EarlyGlobal, TooManyNodes}
-use Rattle.program_plan.specs.declared.error.PlanNo.{PlanNo}
-use Rattle.program_plan.specs.declared.error.PlanNo.TheVariants.{Memory, Refused}
+use Rattle.plan_errors.specs.declared.error.PlanKind.{PlanKind}
+use Rattle.plan_errors.specs.declared.error.PlanKind.TheVariants.{EarlyGlobal, TooManyNodes}
+use Rattle.plan_errors.specs.declared.error.PlanNo.{PlanNo}
+use Rattle.plan_errors.specs.declared.error.PlanNo.TheVariants.{Memory, Refused}
 use Rattle.resolved_forms.specs.declared.layout.Layout.{Layout}
 use Rattle.resolved_forms.specs.declared.top.Top.{Top}
 use Rattle.early_globals.specs.Early.{first_early}

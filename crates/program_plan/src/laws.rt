@@ -1,7 +1,7 @@
 ghost use Rattle.std.specs.Prelude.{◌⊎◌, ℕ, List};
 ghost use Rattle.value_core.specs.Place.{Spot};
 ghost use Rattle.core_syntax.specs.Table.{Table};
-ghost use Rattle.program_plan.specs.declared.error.PlanKind.{PlanKind};
+ghost use Rattle.plan_errors.specs.declared.error.PlanKind.{PlanKind};
 ghost use Rattle.resolved_forms.specs.declared.top.Top.{Top};
 ghost use Rattle.program_plan.specs.Planned.{IsPlanned, IsUnplanned};
 

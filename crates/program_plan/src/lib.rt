@@ -7,13 +7,12 @@ mod chain;
 mod emit;
 mod emitter;
 mod end_loop;
-mod error;
 mod frame;
 mod laws;
 mod lower;
 mod planning;
 mod turn;
 
-pub use error::{PlanKind, PlanNo};
 pub use laws::every_plan;
+pub use plan_errors::{PlanKind, PlanNo};
 pub use planning::plan;

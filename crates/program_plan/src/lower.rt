@@ -10,12 +10,12 @@ ghost use Rattle.program_plan.specs.Lowered.{RefusedAs, behaviour_making, first_
 ghost use Rattle.program_plan.specs.Made.{answered, extended};
 
 use crate::emitter::Emitter;
-use crate::error::{PlanKind, PlanNo, refused};
 use crate::frame::{Frame, count_hidden, hidden_at};
 use core_syntax::{
     Behaviour, Behaviours, BuildNo, Function, Functions, NodeId, Program, Step, Steps, as_number,
     sum_of,
 };
+use plan_errors::{PlanNo, plan_no};
 use resolved_forms::{Expr, Layout, Reacting, Top, TopForms, TopKind};
 use std::alloc::{AllocError, Global};
 use std::marker::Model;
@@ -85,8 +85,7 @@ impl Lowering {
                 lowering.emitter.fits();
                 Ok(lowering)
             }
-            Err(BuildNo::TooManyNodes) => Err(refused(PlanKind::TooManyNodes, top.at)),
-            Err(BuildNo::Memory) => Err(PlanNo::Memory),
+            Err(refusal) => Err(plan_no(refusal, top.at)),
         }
     }
 

@@ -7,10 +7,10 @@ ghost use Rattle.resolved_forms.specs.Reach.{AreReached};
 ghost use Rattle.resolved_forms.specs.TopSurvey.{tops_surveyed};
 ghost use Rattle.value_core.specs.primitives.Words.{takes_of};
 
-use crate::error::{PlanKind, PlanNo, refused};
 use crate::lower::lower;
 use core_syntax::Program;
 use early_globals::first_early;
+use plan_errors::{PlanKind, PlanNo, refused};
 use resolved_forms::{TopForms, TopSurvey, all_units, lay_out, reached, survey_tops};
 use std::alloc::{AllocError, Global};
 use value_core::Seq;

@@ -3,7 +3,7 @@ use Rattle.std.proofs.Common.{◌≡◌, ◌⊎◌, inl, inr, List, Option, None
 use Rattle.value_core.specs.Place.{Spot}
 use Rattle.core_syntax.specs.Table.{Table}
 use Rattle.sexpr_reader.specs.declared.form.Form.{Form}
-use Rattle.program_plan.specs.declared.error.PlanKind.{PlanKind}
+use Rattle.plan_errors.specs.declared.error.PlanKind.{PlanKind}
 use Rattle.program_plan.specs.Planned.{IsPlanned, IsUnplanned}
 use Rattle.program_plan.proofs.Every.{every_plan}
 use Rattle.scope_refusals.specs.declared.kind.ScopeKind.{ScopeKind}

@@ -2,8 +2,8 @@
 use Rattle.std.proofs.Common.{◌≡◌, ℕ, List, None, subst}
 use Rattle.core_syntax.specs.Table.{Table}
 use Rattle.sexpr_reader.specs.declared.form.Form.{Form}
-use Rattle.program_plan.specs.declared.error.PlanNo.{PlanNo}
-use Rattle.program_plan.specs.declared.error.PlanNo.TheVariants.{Memory, Refused}
+use Rattle.plan_errors.specs.declared.error.PlanNo.{PlanNo}
+use Rattle.plan_errors.specs.declared.error.PlanNo.TheVariants.{Memory, Refused}
 use Rattle.resolved_forms.specs.declared.top.Top.{Top}
 use Rattle.program_plan.specs.Planned as planned
 use Rattle.program_plan.specs.Planned.{IsPlanned, IsUnplanned}

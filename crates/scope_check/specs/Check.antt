@@ -4,10 +4,10 @@ use Rattle.value_core.specs.Place.{Spot}
 use Rattle.core_syntax.specs.Table.{Table}
 use Rattle.sexpr_reader.specs.declared.form.Form.{Form}
 use Rattle.sugar.specs.Expansion.{expanded}
-use Rattle.program_plan.specs.declared.error.PlanKind.{PlanKind}
-use Rattle.program_plan.specs.declared.error.PlanKind.TheVariants as plan
-use Rattle.program_plan.specs.declared.error.PlanNo.{PlanNo}
-use Rattle.program_plan.specs.declared.error.PlanNo.TheVariants as why
+use Rattle.plan_errors.specs.declared.error.PlanKind.{PlanKind}
+use Rattle.plan_errors.specs.declared.error.PlanKind.TheVariants as plan
+use Rattle.plan_errors.specs.declared.error.PlanNo.{PlanNo}
+use Rattle.plan_errors.specs.declared.error.PlanNo.TheVariants as why
 use Rattle.resolved_forms.specs.declared.top.Top.{Top}
 use Rattle.program_plan.specs.Planned.{IsPlanned, IsUnplanned}
 use Rattle.scope_check.specs.declared.checking.Found.{Found}

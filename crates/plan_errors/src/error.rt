@@ -1,6 +1,8 @@
 ghost use Rattle.std.specs.Prelude.{◌≡◌};
-ghost use Rattle.program_plan.specs.declared.error.PlanNo.TheVariants.{Memory, Refused};
+ghost use Rattle.plan_errors.specs.declared.error.PlanNo.TheVariants.{Memory, Refused};
+ghost use Rattle.plan_errors.specs.PlanNo.{plan_no};
 
+use core_syntax::BuildNo;
 use std::alloc::AllocError;
 use thiserror::Error;
 use value_core::Place;
@@ -36,8 +38,19 @@ impl From<AllocError> for PlanNo {
 }
 
 /// The refusal of that kind at that place.
-pub(crate) fn refused(kind: PlanKind, at: Place) -> PlanNo
+pub fn refused(kind: PlanKind, at: Place) -> PlanNo
     ensures { result ≡ Refused kind at }
 {
     PlanNo::Refused { kind, at }
+}
+
+/// Why forms have no program, where a node of the top-level form at that place is not taken into the table: its nodes are
+/// too many, or there is no memory.
+pub fn plan_no(refusal: BuildNo, at: Place) -> PlanNo
+    ensures { result ≡ plan_no refusal at }
+{
+    match refusal {
+        BuildNo::TooManyNodes => refused(PlanKind::TooManyNodes, at),
+        BuildNo::Memory => PlanNo::Memory,
+    }
 }
