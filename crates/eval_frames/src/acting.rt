@@ -5,12 +5,12 @@ ghost use Rattle.eval_frames.specs.Finish.{Acts, Comes, IsAct, finish};
 
 use crate::at::At;
 use crate::frame::Frame;
-use crate::known::Known;
 use crate::numbers::of_numbers;
 use crate::operation::operate;
 use crate::outcome::Outcome;
 use crate::registers::Registers;
 use core_syntax::Node;
+use known_values::Known;
 use std::alloc::{AllocError, Global};
 use std::mem;
 use value_core::{Code, Op, Place};

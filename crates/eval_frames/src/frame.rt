@@ -4,8 +4,8 @@ ghost use Rattle.serial_model.specs.Operation.{local_value};
 ghost use Rattle.eval_frames.specs.Frame.{shorter};
 ghost use Rattle.eval_frames.specs.Agreeing.{AgreeBut};
 
-use crate::known::Known;
 use crate::values::{copy_values, local};
+use known_values::Known;
 use smallvec::SmallVec;
 use std::alloc::{AllocError, Global};
 use std::marker::Model;

@@ -4,8 +4,8 @@ ghost use Rattle.serial_model.specs.Operation.{local_value};
 ghost use Rattle.eval_frames.specs.Leaf.{leaf_of};
 
 use crate::frame::Frame;
-use crate::known::Known;
 use core_syntax::Node;
+use known_values::Known;
 use std::alloc::{AllocError, Global};
 use value_core::{Text, Value};
 

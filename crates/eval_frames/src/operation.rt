@@ -5,10 +5,10 @@ ghost use Rattle.value_core.specs.ToKey.{key_of as key_of_value};
 ghost use Rattle.value_core.specs.primitives.Apply.{limited as limited_of};
 ghost use Rattle.eval_frames.specs.Finish.{IsAct, finish, meaning};
 
-use crate::known::Known;
 use crate::outcome::Outcome;
 use crate::values::{local, some_future};
 use core_syntax::Node;
+use known_values::Known;
 use serial_model::Request;
 use std::alloc::{AllocError, Global};
 use value_core::lists::copy_list;

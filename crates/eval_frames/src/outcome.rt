@@ -1,4 +1,4 @@
-use crate::known::Known;
+use known_values::Known;
 use serial_model::Request;
 use value_core::Code;
 

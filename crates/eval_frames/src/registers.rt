@@ -6,7 +6,7 @@ ghost use Rattle.eval_frames.specs.Control.{Halted, standing};
 
 use crate::at::At;
 use crate::frame::Frame;
-use crate::known::Known;
+use known_values::Known;
 use serial_model::{Answer, Halt, Request};
 use std::alloc::{AllocError, Global};
 use std::mem;

@@ -8,8 +8,8 @@ ghost use Rattle.value_core.specs.primitives.Kinds.{is_int};
 ghost use Rattle.value_core.specs.primitives.Parts.{paired, assoc_step, put_rule, place_rule, placed, dissoc_step, drop_key};
 
 use crate::OpFault;
-use crate::ints::{int_of, is_int};
 use crate::parts::{first_of, key_of, push};
+use int_ops::{int_of, is_int};
 use std::alloc::Global;
 use value_core::{Dict, Pairs, Value, Values};
 

@@ -2,7 +2,6 @@
 #![tactic(auto)]
 
 mod entries;
-mod ints;
 mod kinds;
 mod parts;
 mod table;

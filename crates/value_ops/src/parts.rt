@@ -8,7 +8,7 @@ ghost use Rattle.value_core.specs.primitives.Apply.{Gives, of_one, of_two, of_tw
 ghost use Rattle.value_core.specs.primitives.Parts.{item_at, item_of, value_at, count_step, empty_step, get_step, contains_step, item_or, nth_step, conj_step, first_step, last_step, rest_step, keys_step, vals_step, between, subvec_step, subvec_to_step, into_step, key_value};
 
 use crate::OpFault;
-use crate::ints::{int_of, is_int};
+use int_ops::{int_of, is_int};
 use std::alloc::Global;
 use value_core::{Key, KeyNo, Pairs, Value, Values};
 

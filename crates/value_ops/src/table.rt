@@ -6,9 +6,9 @@ ghost use Rattle.value_core.specs.primitives.Equality.{all_same, same_value};
 ghost use Rattle.value_core.specs.primitives.Words.{takes_of};
 ghost use Rattle.value_ops.specs.Depths.{FirstIsShallow, IsPart, KeepsShallow};
 
-use crate::ints::{Arithmetic, Division, Extreme, Order, Sign};
 use crate::kinds::Kind;
-use crate::{OpFault, entries, ints, kinds, parts};
+use crate::{OpFault, entries, kinds, parts};
+use int_ops::{Division, Extreme, Order, Sign};
 use std::alloc::Global;
 use value_core::{Op, Value};
 use value_print::str_of;
@@ -105,26 +105,26 @@ fn rule(alloc: Global, op: Op, args: &[Value]) -> Result<Value, OpFault>
     ensures { Gives result (rule_of op args.now) }
 {
     match op {
-        Op::Add => ints::sum(args),
-        Op::Multiply => ints::product(args),
-        Op::Subtract => ints::difference(args),
-        Op::Inc => ints::increase(args, 1),
-        Op::Dec => ints::increase(args, -1),
-        Op::Max => ints::chosen(Extreme::Greatest, args),
-        Op::Min => ints::chosen(Extreme::Least, args),
-        Op::Quot => ints::divided(Division::Quot, args),
-        Op::Rem => ints::divided(Division::Rem, args),
-        Op::Mod => ints::divided(Division::Mod, args),
-        Op::Below => ints::ordered(Order::Below, args),
-        Op::AtMost => ints::ordered(Order::AtMost, args),
-        Op::Above => ints::ordered(Order::Above, args),
-        Op::AtLeast => ints::ordered(Order::AtLeast, args),
+        Op::Add => int_ops::sum(args),
+        Op::Multiply => int_ops::product(args),
+        Op::Subtract => int_ops::difference(args),
+        Op::Inc => int_ops::increase(args, 1),
+        Op::Dec => int_ops::increase(args, -1),
+        Op::Max => int_ops::chosen(Extreme::Greatest, args),
+        Op::Min => int_ops::chosen(Extreme::Least, args),
+        Op::Quot => int_ops::divided(Division::Quot, args),
+        Op::Rem => int_ops::divided(Division::Rem, args),
+        Op::Mod => int_ops::divided(Division::Mod, args),
+        Op::Below => int_ops::ordered(Order::Below, args),
+        Op::AtMost => int_ops::ordered(Order::AtMost, args),
+        Op::Above => int_ops::ordered(Order::Above, args),
+        Op::AtLeast => int_ops::ordered(Order::AtLeast, args),
         Op::Same => Ok(Value::Bool(all_same(args))),
         Op::NotSame => Ok(Value::Bool(!all_same(args))),
         Op::Not => kinds::asked(Kind::False, args),
-        Op::IsZero => ints::signed(Sign::Zero, args),
-        Op::IsPositive => ints::signed(Sign::Positive, args),
-        Op::IsNegative => ints::signed(Sign::Negative, args),
+        Op::IsZero => int_ops::signed(Sign::Zero, args),
+        Op::IsPositive => int_ops::signed(Sign::Positive, args),
+        Op::IsNegative => int_ops::signed(Sign::Negative, args),
         Op::IsNil => kinds::asked(Kind::Nil, args),
         Op::IsSome => kinds::asked(Kind::Some, args),
         Op::IsInt => kinds::asked(Kind::Int, args),

@@ -1,10 +1,10 @@
 use Rattle.std.proofs.Common.{sym, ◌∙◌, rules, w64}
 use Rattle.std.proofs.lemmas.Int.{to_z-of_z}
 use mir.Val.{SFits}
-use Rattle.value_ops.specs.Ints.{relation_of}
+use Rattle.int_ops.specs.Ints.{relation_of}
 use Rattle.value_core.specs.primitives.Kinds.{int_of}
-use Rattle.value_ops.proofs.IntSteps.{in_order_next, in_order_all}
-use Rattle.value_ops.proofs.ints.is_in_order.Goals as goal
+use Rattle.int_ops.proofs.IntSteps.{in_order_next, in_order_all}
+use Rattle.int_ops.proofs.ints.is_in_order.Goals as goal
 
 pub loop-index-preserved : goal.loop-index-preserved
 loop-index-preserved c =

@@ -3,16 +3,16 @@ use Rattle.std.specs.Prelude.{ℤ, pos, ◌+ℤ◌, ◌-ℤ◌, ◌*ℤ◌, Bool
 use Rattle.std.specs.Int.{int_max, int_min}
 use Rattle.std.specs.Ordering.{int_eq}
 use Rattle.value_core.specs.primitives.Ints.{int_mod}
-use Rattle.value_ops.specs.declared.ints.Arithmetic.{Arithmetic}
-use Rattle.value_ops.specs.declared.ints.Arithmetic.TheVariants.{Add, Multiply, Subtract}
-use Rattle.value_ops.specs.declared.ints.Division.{Division}
-use Rattle.value_ops.specs.declared.ints.Division.TheVariants.{Quot, Rem, Mod}
-use Rattle.value_ops.specs.declared.ints.Extreme.{Extreme}
-use Rattle.value_ops.specs.declared.ints.Extreme.TheVariants.{Greatest, Least}
-use Rattle.value_ops.specs.declared.ints.Order.{Order}
-use Rattle.value_ops.specs.declared.ints.Order.TheVariants.{Below, AtMost, Above, AtLeast}
-use Rattle.value_ops.specs.declared.ints.Sign.{Sign}
-use Rattle.value_ops.specs.declared.ints.Sign.TheVariants.{Zero, Positive, Negative}
+use Rattle.int_ops.specs.declared.ints.Arithmetic.{Arithmetic}
+use Rattle.int_ops.specs.declared.ints.Arithmetic.TheVariants.{Add, Multiply, Subtract}
+use Rattle.int_ops.specs.declared.ints.Division.{Division}
+use Rattle.int_ops.specs.declared.ints.Division.TheVariants.{Quot, Rem, Mod}
+use Rattle.int_ops.specs.declared.ints.Extreme.{Extreme}
+use Rattle.int_ops.specs.declared.ints.Extreme.TheVariants.{Greatest, Least}
+use Rattle.int_ops.specs.declared.ints.Order.{Order}
+use Rattle.int_ops.specs.declared.ints.Order.TheVariants.{Below, AtMost, Above, AtLeast}
+use Rattle.int_ops.specs.declared.ints.Sign.{Sign}
+use Rattle.int_ops.specs.declared.ints.Sign.TheVariants.{Zero, Positive, Negative}
 
 abbrev pub step_of : Arithmetic → ℤ → ℤ → ℤ
 step_of Add a b = a +ℤ b

@@ -3,12 +3,12 @@ use Rattle.std.proofs.Common.{◌≡◌, ℕ, zero, suc, ◌+◌, ◌-◌, ◌<�
 use Rattle.std.proofs.lemmas.List.{get_or_default}
 use Rattle.std.specs.List.{list_all}
 use Rattle.value_core.specs.declared.value.Value.{Value}
-use Rattle.value_ops.specs.declared.ints.Arithmetic.TheVariants.{Subtract}
+use Rattle.int_ops.specs.declared.ints.Arithmetic.TheVariants.{Subtract}
 use Rattle.value_core.specs.declared.op_fault.OpFault.{OpFault}
 use Rattle.value_core.specs.declared.op_fault.OpFault.TheVariants.{WrongType}
 use Rattle.value_core.specs.primitives.Apply.{Gives}
 use Rattle.value_core.specs.primitives.Ints.{in_order, folded, on_ints, difference_rule}
-use Rattle.value_ops.specs.Ints.{step_of}
+use Rattle.int_ops.specs.Ints.{step_of}
 use Rattle.value_core.specs.primitives.Kinds.{is_int, int_of}
 
 -- a number and the next are compared, and then the rest

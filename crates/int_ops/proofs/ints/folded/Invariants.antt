@@ -1,8 +1,8 @@
 use Rattle.std.proofs.Common.{◌≡◌, ◌≤◌, map, drop, length}
 use Rattle.value_core.specs.primitives.Ints.{folded}
-use Rattle.value_ops.specs.Ints.{step_of}
+use Rattle.int_ops.specs.Ints.{step_of}
 use Rattle.value_core.specs.primitives.Kinds.{int_of}
-use Rattle.value_ops.proofs.ints.folded.Given as goal
+use Rattle.int_ops.proofs.ints.folded.Given as goal
 
 abbrev pub invariant-loop-index : goal.invariant-loop-index
 invariant-loop-index l = record {

@@ -1,8 +1,8 @@
 use Rattle.std.proofs.Common.{sym, rules, w64}
 use Rattle.std.proofs.lemmas.Int.{to_z-of_z}
 use mir.Val.{SFits}
-use Rattle.value_ops.proofs.IntSteps.{difference_many}
-use Rattle.value_ops.proofs.ints.difference.Goals as goal
+use Rattle.int_ops.proofs.IntSteps.{difference_many}
+use Rattle.int_ops.proofs.ints.difference.Goals as goal
 
 pub returns-in-len2-up : goal.returns-in-len2-up
 returns-in-len2-up c =

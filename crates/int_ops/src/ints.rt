@@ -2,15 +2,14 @@ ghost use Rattle.std.specs.Prelude.{◌≡◌, ◌≢◌, ◌≤◌, ℤ, pos, t
 ghost use Rattle.std.specs.List.{list_all};
 ghost use Rattle.value_core.specs.primitives.Apply.{Gives};
 ghost use Rattle.value_core.specs.primitives.Ints.{in_range, checked, folded, on_ints, sum_rule, product_rule, difference_rule, increase_rule, extreme_rule, division_rule, order_rule, test_rule, int_mod, in_order};
-ghost use Rattle.value_ops.specs.Ints.{step_of, quotient_of, choice_of, relation_of, test_of};
+ghost use Rattle.int_ops.specs.Ints.{step_of, quotient_of, choice_of, relation_of, test_of};
 ghost use Rattle.value_core.specs.primitives.Kinds.{is_int, int_of};
 
-use crate::OpFault;
-use value_core::Value;
+use value_core::{OpFault, Value};
 
 /// How a sum, a product or a difference goes on.
 #[derive(Clone, Copy, Debug, PartialEq, Eq)]
-pub(crate) enum Arithmetic {
+enum Arithmetic {
     Add,
     Multiply,
     Subtract,
@@ -18,7 +17,7 @@ pub(crate) enum Arithmetic {
 
 /// What is taken of a division.
 #[derive(Clone, Copy, Debug, PartialEq, Eq)]
-pub(crate) enum Division {
+pub enum Division {
     Quot,
     Rem,
     Mod,
@@ -26,14 +25,14 @@ pub(crate) enum Division {
 
 /// Which of two numbers is chosen.
 #[derive(Clone, Copy, Debug, PartialEq, Eq)]
-pub(crate) enum Extreme {
+pub enum Extreme {
     Greatest,
     Least,
 }
 
 /// A relation of two numbers.
 #[derive(Clone, Copy, Debug, PartialEq, Eq)]
-pub(crate) enum Order {
+pub enum Order {
     Below,
     AtMost,
     Above,
@@ -42,13 +41,13 @@ pub(crate) enum Order {
 
 /// A test of one number.
 #[derive(Clone, Copy, Debug, PartialEq, Eq)]
-pub(crate) enum Sign {
+pub enum Sign {
     Zero,
     Positive,
     Negative,
 }
 
-pub(crate) fn is_int(value: &Value) -> bool
+pub fn is_int(value: &Value) -> bool
     ensures { result ≡ is_int value.now }
 {
     match value {
@@ -58,7 +57,7 @@ pub(crate) fn is_int(value: &Value) -> bool
 }
 
 /// An integer's number, and 0 for the other kinds.
-pub(crate) fn int_of(value: &Value) -> i64
+pub fn int_of(value: &Value) -> i64
     ensures { result ≡ int_of value.now }
 {
     match value {
@@ -79,7 +78,7 @@ fn all_ints(args: &[Value]) -> bool
 }
 
 /// `+`
-pub(crate) fn sum(args: &[Value]) -> Result<Value, OpFault>
+pub fn sum(args: &[Value]) -> Result<Value, OpFault>
     ensures { Gives result (on_ints sum_rule args.now) }
 {
     if !all_ints(args) {
@@ -89,7 +88,7 @@ pub(crate) fn sum(args: &[Value]) -> Result<Value, OpFault>
 }
 
 /// `*`
-pub(crate) fn product(args: &[Value]) -> Result<Value, OpFault>
+pub fn product(args: &[Value]) -> Result<Value, OpFault>
     ensures { Gives result (on_ints product_rule args.now) }
 {
     if !all_ints(args) {
@@ -99,7 +98,7 @@ pub(crate) fn product(args: &[Value]) -> Result<Value, OpFault>
 }
 
 /// `-`
-pub(crate) fn difference(args: &[Value]) -> Result<Value, OpFault>
+pub fn difference(args: &[Value]) -> Result<Value, OpFault>
     ensures { Gives result (on_ints difference_rule args.now) }
 {
     if !all_ints(args) {
@@ -113,7 +112,7 @@ pub(crate) fn difference(args: &[Value]) -> Result<Value, OpFault>
 }
 
 /// `inc` and `dec`, which add 1 or -1.
-pub(crate) fn increase(args: &[Value], by: i64) -> Result<Value, OpFault>
+pub fn increase(args: &[Value], by: i64) -> Result<Value, OpFault>
     ensures { Gives result (on_ints (increase_rule by) args.now) }
 {
     if !all_ints(args) {
@@ -158,7 +157,7 @@ fn step(kind: Arithmetic, left: i64, right: i64) -> Option<i64>
 }
 
 /// `max` and `min`
-pub(crate) fn chosen(kind: Extreme, args: &[Value]) -> Result<Value, OpFault>
+pub fn chosen(kind: Extreme, args: &[Value]) -> Result<Value, OpFault>
     ensures { Gives result (on_ints (extreme_rule (choice_of kind)) args.now) }
 {
     if !all_ints(args) {
@@ -184,7 +183,7 @@ fn choice(kind: Extreme, left: i64, right: i64) -> i64
 }
 
 /// `quot`, `rem` and `mod`
-pub(crate) fn divided(kind: Division, args: &[Value]) -> Result<Value, OpFault>
+pub fn divided(kind: Division, args: &[Value]) -> Result<Value, OpFault>
     ensures { Gives result (on_ints (division_rule (quotient_of kind)) args.now) }
 {
     if !all_ints(args) {
@@ -234,7 +233,7 @@ fn modulus(left: i64, right: i64) -> i64
 }
 
 /// `<`, `<=`, `>` and `>=`
-pub(crate) fn ordered(kind: Order, args: &[Value]) -> Result<Value, OpFault>
+pub fn ordered(kind: Order, args: &[Value]) -> Result<Value, OpFault>
     ensures { Gives result (on_ints (order_rule (relation_of kind)) args.now) }
 {
     if !all_ints(args) {
@@ -266,7 +265,7 @@ fn holds(kind: Order, left: i64, right: i64) -> bool
 }
 
 /// `zero?`, `pos?` and `neg?`
-pub(crate) fn signed(kind: Sign, args: &[Value]) -> Result<Value, OpFault>
+pub fn signed(kind: Sign, args: &[Value]) -> Result<Value, OpFault>
     ensures { Gives result (on_ints (test_rule (test_of kind)) args.now) }
 {
     if !all_ints(args) {
