@@ -5,7 +5,7 @@ use Rattle.std.specs.Cmp.Lexicographic.{nat_list_eq_equiv}
 use Rattle.std.specs.Option.{unwrap_or}
 use Rattle.std.specs.Str.{bytes_eq}
 use Rattle.std.proofs.lemmas.Option.{none-some, same_Some}
-use Rattle.scope_names.specs.Names.{deeper, innermost, levels_of}
+use Rattle.scope_locals.specs.Innermost.{deeper, innermost, levels_of}
 use Rattle.resolved_forms.proofs.Members.{none_in, in_cons, in_head, in_tail}
 
 -- the innermost of these locals with a name

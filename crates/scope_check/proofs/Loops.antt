@@ -14,7 +14,7 @@ use Rattle.scope_check.specs.declared.resolver.Resolver.{Resolver}
 use Rattle.scope_check.specs.declared.stand.Stand.{Stand}
 use Rattle.scope_check.specs.Heads.{bound, formed, looping, loop_of, loop_scope, loop_stand, loop_with, loop_value}
 use Rattle.scope_check.specs.Moves.{scope_in, Begins, Gives}
-use Rattle.scope_names.specs.Names.{levels_of}
+use Rattle.scope_locals.specs.Innermost.{levels_of}
 use Rattle.scope_check.specs.Parts.{body}
 use Rattle.scope_check.specs.Resolved.{Bound, Meaning}
 use Rattle.resolved_forms.specs.InRange.{expr_at}

@@ -23,7 +23,8 @@ use Rattle.scope_check.specs.declared.stand.Target.{Target}
 use Rattle.scope_check.specs.declared.start.Start.{Start}
 use Rattle.scope_check.specs.declared.start.Start.TheVariants as starts
 use Rattle.scope_check.specs.Heads.{misplaced, let_of, let_in, let_with, let_value, loop_of, looping, loop_in, loop_with, loop_value, loop_scope, recur_to, exactly, start_head, started, start_of, start_value, special_value, called, op_value, word_value, headed, list_value, formed}
-use Rattle.scope_names.specs.Names.{defined, innermost}
+use Rattle.scope_locals.specs.Innermost.{innermost}
+use Rattle.scope_names.specs.Names.{defined}
 use Rattle.scope_names.specs.Ops.{op_of}
 use Rattle.scope_check.specs.Parts.{each, applied, body, around}
 use Rattle.scope_check.specs.Resolved.{Bindings, Meaning}

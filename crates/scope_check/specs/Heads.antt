@@ -18,7 +18,7 @@ use Rattle.scope_check.specs.declared.stand.Stand.{Stand}
 use Rattle.scope_check.specs.declared.stand.Target.{Target}
 use Rattle.scope_check.specs.declared.start.Start.{Start}
 use Rattle.scope_check.specs.declared.start.Start.TheVariants as starts
-use Rattle.scope_names.specs.Names.{levels_of}
+use Rattle.scope_locals.specs.Innermost.{levels_of}
 use Rattle.scope_names.specs.Ops.{op_of}
 use Rattle.scope_check.specs.Parts.{each, made_of, applied, body, around}
 use Rattle.scope_check.specs.Resolved.{Resolved, Bound, Bindings, Meaning, resolved, refusal, failed}

@@ -8,7 +8,7 @@ use Rattle.std.specs.Option.{is_some}
 use Rattle.std.specs.Str.{bytes_eq}
 use Rattle.scope_names.specs.declared.definition.Definition.{Definition}
 use Rattle.scope_names.specs.declared.definition.What.{What}
-use Rattle.scope_names.specs.ByName.{at_name}
+use Rattle.scope_locals.specs.ByName.{at_name}
 use Rattle.scope_names.specs.Names.{defined}
 
 abbrev pub otherwise : Option What → Option What → Option What

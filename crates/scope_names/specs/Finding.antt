@@ -5,7 +5,8 @@ use Rattle.scope_names.specs.declared.definition.Definition.{Definition}
 use Rattle.scope_names.specs.declared.definition.What.{What}
 use Rattle.scope_names.specs.declared.found.Found.{Found}
 use Rattle.scope_names.specs.declared.found.Found.TheVariants.{Local, Reserved, Defined, Nothing}
-use Rattle.scope_names.specs.Names.{defined, innermost}
+use Rattle.scope_locals.specs.Innermost.{innermost}
+use Rattle.scope_names.specs.Names.{defined}
 use Rattle.scope_names.specs.Ops.{op_of}
 
 -- reserved are the words of the forms and of the primitives

@@ -1,6 +1,4 @@
-pub mod ByName
 pub mod Finding
-pub mod Levels
 pub mod Names
 pub mod Ops
 pub mod Shapes

@@ -3,9 +3,9 @@ ghost use Rattle.scope_names.specs.Finding.{find, found_reserved, is_reserved};
 ghost use Rattle.scope_names.specs.Names.{defined};
 
 use crate::definition::What;
-use crate::locals::Locals;
 use crate::names::Names;
 use crate::reserved::is_reserved;
+use scope_locals::Locals;
 
 /// What a name stands for where it is used.
 #[derive(Clone, Copy, Debug, PartialEq, Eq)]

@@ -17,7 +17,7 @@ pub struct Names {
 impl Model for Names {
     ghost use Rattle.std.specs.Prelude.{◌≡◌, ℕ, List};
     ghost use Rattle.scope_names.specs.declared.definition.Definition.{Definition};
-    ghost use Rattle.scope_names.specs.ByName.{at_name};
+    ghost use Rattle.scope_locals.specs.ByName.{at_name};
     ghost use Rattle.scope_names.specs.Names.{defined};
 
     ghost Value = { List Definition };

@@ -2,9 +2,9 @@ use Rattle.std.proofs.Common.{◌≡◌, ℕ, List, Some, None, IsSome, sym, ap,
 use Rattle.std.specs.Map.{update}
 use Rattle.std.specs.Str.{bytes_eq}
 use Rattle.scope_names.specs.declared.definition.Definition.{Definition}
-use Rattle.scope_names.specs.ByName.{at_name}
+use Rattle.scope_locals.specs.ByName.{at_name}
 use Rattle.scope_names.specs.Names.{defined}
-use Rattle.scope_names.proofs.ByName.{changed_at}
+use Rattle.scope_locals.proofs.ByName.{changed_at}
 use Rattle.scope_names.proofs.Defined.{defined_known, defined_fresh, no_entry}
 use Rattle.scope_names.proofs.names.Names.add.Goals as goal
 

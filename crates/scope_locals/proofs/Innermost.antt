@@ -1,7 +1,7 @@
 -- The innermost local with a name, where one more is bound.
 use Rattle.std.proofs.Common.{◌≡◌, ℕ, suc, Bool, true, false, if◌then◌else◌, List, [], ◌∷◌, ◌++◌, length, Option, None, Some, refl}
 use Rattle.std.specs.Str.{bytes_eq}
-use Rattle.scope_names.specs.Names.{innermost, deeper}
+use Rattle.scope_locals.specs.Innermost.{innermost, deeper}
 
 abbrev pub pushed : Bool → ℕ → Option ℕ → Option ℕ
 pushed true level outside = Some level

@@ -2,9 +2,9 @@
 use Rattle.std.specs.Prelude.{◌≡◌, ℕ, List, map, take, Some, slice_get}
 use Rattle.std.specs.BTreeMap.{BTreeMap}
 use Rattle.std.specs.Global.{Vec}
-use Rattle.scope_names.specs.declared.locals.Local.{Local}
-use Rattle.scope_names.specs.ByName.{at_name}
-use Rattle.scope_names.specs.Names.{innermost}
+use Rattle.scope_locals.specs.declared.locals.Local.{Local}
+use Rattle.scope_locals.specs.ByName.{at_name}
+use Rattle.scope_locals.specs.Innermost.{innermost}
 
 abbrev pub names_of : List Local → List (List ℕ)
 names_of locals = map (λ local. local.name) locals

@@ -1,9 +1,9 @@
 use Rattle.std.proofs.Common.{Some, sym, ap, ◌∙◌}
 use Rattle.std.specs.Map.{update}
 use Rattle.std.specs.Str.{bytes_eq}
-use Rattle.scope_names.specs.ByName.{at_name}
-use Rattle.scope_names.proofs.ByName.{changed_at}
-use Rattle.scope_names.proofs.locals.restore.Goals as goal
+use Rattle.scope_locals.specs.ByName.{at_name}
+use Rattle.scope_locals.proofs.ByName.{changed_at}
+use Rattle.scope_locals.proofs.locals.restore.Goals as goal
 
 pub returns-in-Some-get_mut : goal.returns-in-Some-get_mut
 returns-in-Some-get_mut c = λ other.

@@ -9,11 +9,11 @@ use Rattle.std.specs.Str.{bytes_eq}
 use Rattle.std.proofs.lemmas.List.{take-append-le, take_all, length-map, drop-map, length-drop}
 use Rattle.std.proofs.lemmas.Option.{slice_get_within}
 use Rattle.core_syntax.proofs.Appends.{slice_get-append_left, slice_get-push, slice_get-push_cases}
-use Rattle.scope_names.specs.declared.locals.Local.{Local}
-use Rattle.scope_names.specs.ByName.{at_name}
-use Rattle.scope_names.specs.Levels.{names_of, AreLevels}
-use Rattle.scope_names.specs.Names.{innermost}
-use Rattle.scope_names.proofs.Innermost.{pushed, innermost_push}
+use Rattle.scope_locals.specs.declared.locals.Local.{Local}
+use Rattle.scope_locals.specs.ByName.{at_name}
+use Rattle.scope_locals.specs.Levels.{names_of, AreLevels}
+use Rattle.scope_locals.specs.Innermost.{innermost}
+use Rattle.scope_locals.proofs.Innermost.{pushed, innermost_push}
 
 -- the locals with one more behind them
 names_push : (locals : List Local) (local : Local) → names_of (locals ++ local ∷ []) ≡ names_of locals ++ local.name ∷ []

@@ -1,12 +1,12 @@
 use Rattle.std.proofs.Common.{◌≡◌, ℕ, List, length, Some, sym, ap, ◌∙◌, subst, rules}
 use Rattle.std.specs.Map.{update}
 use Rattle.std.specs.Str.{bytes_eq}
-use Rattle.scope_names.specs.declared.locals.Local.{Local}
-use Rattle.scope_names.specs.ByName.{at_name}
-use Rattle.scope_names.specs.Levels.{AreLevels}
-use Rattle.scope_names.proofs.ByName.{changed_at}
-use Rattle.scope_names.proofs.Levels.{levels_pushed}
-use Rattle.scope_names.proofs.locals.Locals.bind.Goals as goal
+use Rattle.scope_locals.specs.declared.locals.Local.{Local}
+use Rattle.scope_locals.specs.ByName.{at_name}
+use Rattle.scope_locals.specs.Levels.{AreLevels}
+use Rattle.scope_locals.proofs.ByName.{changed_at}
+use Rattle.scope_locals.proofs.Levels.{levels_pushed}
+use Rattle.scope_locals.proofs.locals.Locals.bind.Goals as goal
 
 pub invariant_of-self-in-Ok : goal.invariant_of-self-in-Ok
 invariant_of-self-in-Ok c =

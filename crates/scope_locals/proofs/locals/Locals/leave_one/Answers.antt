@@ -1,11 +1,11 @@
 use Rattle.std.proofs.Common.{◌≡◌, ℕ, List, length, ◌++◌, ◌∷◌, [], IsSome, sym, ap, subst, arith, length-append}
 use Rattle.std.specs.Map.{update}
 use Rattle.std.specs.Str.{bytes_eq}
-use Rattle.scope_names.specs.declared.locals.Local.{Local}
-use Rattle.scope_names.specs.ByName.{at_name}
-use Rattle.scope_names.specs.Levels.{AreLevels}
-use Rattle.scope_names.proofs.Levels.{levels_popped, last_shown}
-use Rattle.scope_names.proofs.locals.Locals.leave_one.Goals as goal
+use Rattle.scope_locals.specs.declared.locals.Local.{Local}
+use Rattle.scope_locals.specs.ByName.{at_name}
+use Rattle.scope_locals.specs.Levels.{AreLevels}
+use Rattle.scope_locals.proofs.Levels.{levels_popped, last_shown}
+use Rattle.scope_locals.proofs.locals.Locals.leave_one.Goals as goal
 
 pub restore-requires : goal.restore-requires
 restore-requires c =

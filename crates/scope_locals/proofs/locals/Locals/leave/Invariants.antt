@@ -1,5 +1,5 @@
 use Rattle.std.proofs.Common.{◌≡◌, ◌≤◌, take, length}
-use Rattle.scope_names.proofs.locals.Locals.leave.Given as goal
+use Rattle.scope_locals.proofs.locals.Locals.leave.Given as goal
 
 abbrev pub invariant-loop-self : goal.invariant-loop-self
 invariant-loop-self l = (l.depth ≤ length l.self) × (take l.depth l.self ≡ take l.depth l.initial.self)

@@ -1,8 +1,8 @@
 use Rattle.std.proofs.Common.{◌++◌, length, take, drop, ◌-◌, ap, ◌∙◌}
-use Rattle.scope_names.specs.Levels.{names_of}
-use Rattle.scope_names.specs.Names.{levels_of}
-use Rattle.scope_names.proofs.Levels.{names_from}
-use Rattle.scope_names.proofs.locals.Locals.innermost_from.Goals as goal
+use Rattle.scope_locals.specs.Levels.{names_of}
+use Rattle.scope_locals.specs.Innermost.{levels_of}
+use Rattle.scope_locals.proofs.Levels.{names_from}
+use Rattle.scope_locals.proofs.locals.Locals.innermost_from.Goals as goal
 
 pub loop-local-init : goal.loop-local-init
 loop-local-init c =

@@ -1,7 +1,7 @@
 use Rattle.std.proofs.Common.{◌≡◌, ◌++◌, drop}
-use Rattle.scope_names.specs.Levels.{names_of}
-use Rattle.scope_names.specs.Names.{levels_of}
-use Rattle.scope_names.proofs.locals.Locals.innermost_from.Given as goal
+use Rattle.scope_locals.specs.Levels.{names_of}
+use Rattle.scope_locals.specs.Innermost.{levels_of}
+use Rattle.scope_locals.proofs.locals.Locals.innermost_from.Given as goal
 
 abbrev pub invariant-loop-local : goal.invariant-loop-local
 invariant-loop-local l = record {

@@ -1,8 +1,8 @@
 ghost use Rattle.std.specs.Prelude.{◌≡◌, ◌≤◌, ◌-◌, [], ◌∷◌, ◌++◌, ℕ, List, length, take, drop, IsSome, IfOk, OnOk, OnErr};
 ghost use Rattle.std.specs.Map.{update};
 ghost use Rattle.std.specs.Str.{bytes_eq};
-ghost use Rattle.scope_names.specs.ByName.{at_name};
-ghost use Rattle.scope_names.specs.Names.{innermost, levels_of};
+ghost use Rattle.scope_locals.specs.ByName.{at_name};
+ghost use Rattle.scope_locals.specs.Innermost.{innermost, levels_of};
 
 use core_syntax::sum_of;
 use std::alloc::{AllocError, Global};
@@ -31,7 +31,7 @@ impl Model for Locals {
 
     ghost Value = { List (List ℕ) };
 
-    ghost use Rattle.scope_names.specs.Levels.{AreLevels, names_of};
+    ghost use Rattle.scope_locals.specs.Levels.{AreLevels, names_of};
 
     ghost view = { λ l. names_of l.locals.items };
 

@@ -1,0 +1,3 @@
+pub mod ByName
+pub mod Innermost
+pub mod Levels

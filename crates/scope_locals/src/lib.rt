@@ -1,0 +1,6 @@
+//! The locals that are bound at a place, found by name.
+#![tactic(auto)]
+
+mod locals;
+
+pub use locals::Locals;
