@@ -59,9 +59,13 @@ impl Builder {
         ensures refused { OnErr result (self.new ≡ self.old) }
     {
         if self.counted == NODE_LIMIT {
+            drop(node);
             return Err(BuildNo::TooManyNodes);
         }
-        let id = next_id(&self.rows)?;
+        let Ok(id) = next_id(&self.rows) else {
+            drop(node);
+            return Err(BuildNo::Memory);
+        };
         let more = u32::from(node.counts());
         add(&mut self.rows, Row { node, at })?;
         self.counted += more;

@@ -68,12 +68,16 @@ impl Held {
         ensures waits { IfOk result (λ ahead. IsMustWait ahead ↔ IsLookUp request) }
         ensures same { OnErr result (self.new ≡ self.old) }
     {
-        match foretell(alloc, &self.turn, &self.actor, self.made, &request)? {
-            Some(answer) => {
+        match foretell(alloc, &self.turn, &self.actor, self.made, &request) {
+            Ok(Some(answer)) => {
                 let given = hold(&mut self.made, &mut self.effects, alloc, request, answer)?;
                 Ok(Ahead::Answered(given))
             }
-            None => Ok(Ahead::MustWait(request)),
+            Ok(None) => Ok(Ahead::MustWait(request)),
+            Err(_) => {
+                drop(request);
+                Err(AllocError)
+            }
         }
     }
 
@@ -206,9 +210,32 @@ fn hold(
     ensures same_made { OnErr result (made.new ≡ made.old) }
     ensures same_held { OnErr result (effects.new.items ≡ effects.old.items) }
 {
-    let given = answer.copy(alloc)?;
-    let count = made.checked_add(count_made(&request)).ok_or(AllocError)?;
-    hold_last(effects, HeldEffect::Asked(request, answer))?;
-    *made = count;
-    Ok(given)
+    let Ok((given, count)) = handed_out(alloc, *made, &request, &answer) else {
+        drop(request);
+        drop(answer);
+        return Err(AllocError);
+    };
+    match hold_last(effects, HeldEffect::Asked(request, answer)) {
+        Ok(()) => {
+            *made = count;
+            Ok(given)
+        }
+        Err(_) => {
+            drop(given);
+            Err(AllocError)
+        }
+    }
+}
+
+/// An answer equal to that of the request, and how many things are made with what the request makes.
+fn handed_out(
+    alloc: Global,
+    made: u32,
+    request: &Request,
+    answer: &Answer,
+) -> Result<(Answer, u32), AllocError>
+    ensures { IfOk result (λ out. (out.0 ≡ answer.now) × (out.1 ≡ made + things_made request.now)) }
+{
+    let count = made.checked_add(count_made(request)).ok_or(AllocError)?;
+    Ok((answer.copy(alloc)?, count))
 }

@@ -51,6 +51,9 @@ pub(crate) fn hold_last(
 {
     match effects.push_back(effect) {
         Ok(()) => Ok(()),
-        Err(_) => Err(AllocError),
+        Err(refused) => {
+            drop(refused);
+            Err(AllocError)
+        }
     }
 }
