@@ -1,4 +1,5 @@
 ghost use Rattle.std.specs.Prelude.{◌≡◌, IfOk};
+ghost use Rattle.serial_model.specs.declared.request.Request.TheVariants as request;
 
 use core_syntax::NodeId;
 use std::alloc::{AllocError, Global};
@@ -40,20 +41,36 @@ impl Request {
             Request::Print(line) => Ok(Request::Print(line.copy(alloc)?)),
             Request::NewRef(content) => Ok(Request::NewRef(content.copy(alloc)?)),
             Request::Deref(cell) => Ok(Request::Deref(cell.copy(alloc)?)),
-            Request::RefSet(cell, content) => Ok(Request::RefSet(
-                cell.copy(alloc)?,
-                content.copy(alloc)?,
-            )),
+            Request::RefSet(cell, content) => copy_ref_set(alloc, cell, content),
             Request::Fork(body, frame) => Ok(Request::Fork(*body, frame.copy()?)),
             Request::Join(future) => Ok(Request::Join(future.copy(alloc)?)),
             Request::Dosync(body, frame) => Ok(Request::Dosync(*body, frame.copy()?)),
             Request::Spawn(number, state) => Ok(Request::Spawn(*number, state.copy()?)),
-            Request::Send(actor, message) => {
-                let message = message.copy()?;
-                Ok(Request::Send(actor.copy(alloc)?, message))
-            }
+            Request::Send(actor, message) => copy_send(alloc, actor, message),
             Request::Become(number, state) => Ok(Request::Become(*number, state.copy()?)),
             Request::SelfActor => Ok(Request::SelfActor),
         }
     }
+}
+
+/// A request, equal to the one that sets that ref to the content.
+fn copy_ref_set(alloc: Global, cell: &Name, content: &Value) -> Result<Request, AllocError>
+    ensures { IfOk result (λ copied. copied ≡ request.RefSet cell.now content.now) }
+{
+    let content = content.copy(alloc)?;
+    match cell.copy(alloc) {
+        Ok(cell) => Ok(Request::RefSet(cell, content)),
+        Err(failed) => {
+            drop(content);
+            Err(failed)
+        }
+    }
+}
+
+/// A request, equal to the one that sends the message to that actor.
+fn copy_send(alloc: Global, actor: &Name, message: &Values) -> Result<Request, AllocError>
+    ensures { IfOk result (λ copied. copied ≡ request.Send actor.now message.now) }
+{
+    let message = message.copy()?;
+    Ok(Request::Send(actor.copy(alloc)?, message))
 }
