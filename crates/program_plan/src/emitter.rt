@@ -143,22 +143,27 @@ impl Emitter {
         requires turns { All (λ behaviour. IsTurnAt self.rows behaviour.body) behaviours }
         ensures { IfOk result (λ program. program ≡ finished self.rows steps (functions ++ self.loops) (length functions) behaviours) }
     {
-        let written = as_number(functions.items().len())?;
-        let all = joined(functions, self.loops.as_slice())?;
+        let Ok((all, written)) = joined(functions, self.loops.as_slice()) else {
+            drop((self, steps, behaviours));
+            return Err(AllocError);
+        };
         if self.functions > all.items().len() as u64
             || self.behaviours > behaviours.items().len() as u64
         {
+            drop((self, steps, all, behaviours));
             return Err(AllocError);
         }
         self.builder.finish(steps, all, written, behaviours)
     }
 }
 
-fn joined(mut functions: Functions, loops: &[Function]) -> Result<Functions, AllocError>
-    ensures { IfOk result (λ all. all ≡ functions ++ loops.now) }
+// The functions with those of loops behind them, and how many there were.
+fn joined(mut functions: Functions, loops: &[Function]) -> Result<(Functions, u32), AllocError>
+    ensures { IfOk result (λ joined. (joined.0 ≡ functions ++ loops.now) × (joined.1 ≡ length functions)) }
 {
+    let written = as_number(functions.items().len())?;
     functions.extend(loops)?;
-    Ok(functions)
+    Ok((functions, written))
 }
 
 // All functions that the node names are among so many first ones.
