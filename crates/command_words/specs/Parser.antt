@@ -1,11 +1,13 @@
 -- What the parser of words is told of the commands, and which words are passed to it.
 use Rattle.std.specs.Prelude.{List, [], ◌∷◌, ◌++◌, Bool, true, false, not, ◌==◌, ◌&&◌, ◌||◌, Option, Some, None, map}
-use Rattle.std.specs.Prelude.{codes, if◌then◌else◌}
+use Rattle.std.specs.Prelude.{codes, if◌then◌else◌, ◌≡◌, Result, IfOk}
 use Rattle.std.specs.List.{list_any, after_first}
 use Rattle.std.specs.Option.{option_map_or}
-use Rattle.clap.specs.Words.{App, Rule, new_app, new_rule, with_rule, with_subcommand}
+use Rattle.clap.specs.Words.{App, Rule, app_of, new_app, new_rule, with_rule, with_subcommand}
 use Rattle.clap.specs.Simple.{on_top}
 use Rattle.clap.specs.Walk.{is_empty}
+use Rattle.clap.specs.declared.builder.command.Command.{Command}
+use Rattle.clap.specs.declared.builder.command.Command.TheViews.{out-Command}
 use Rattle.said_values.specs.Values.{Word}
 use Rattle.command_words.specs.Reading.{Form, is_fit, is_equals}
 use Rattle.command_words.specs.Said.{run_form, schedule_form, replay_form, check_form, make_form, stress_form}
@@ -17,6 +19,14 @@ told_place name = record (new_rule name) { required = true }
 -- an option that takes a value
 abbrev pub told_option : Word → Rule
 told_option name = record (new_rule name) { long = Some name }
+
+-- the command, where there was memory for it, is told that
+abbrev pub IsTold : {E : Type 0} → Result Command E → App → Type 0
+IsTold built app = IfOk built (λ c. app_of c ≡ app)
+
+-- no place or option of the command is one of the commands below it
+abbrev pub IsLocal : {E : Type 0} → Result Command E → Type 0
+IsLocal built = IfOk built (λ c. (out-Command c).has_globals ≡ false)
 
 -- the command with these places and options too
 abbrev pub with_rules : App → List Rule → App
