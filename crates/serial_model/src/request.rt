@@ -38,16 +38,20 @@ impl Request {
         ensures { IfOk result (λ copied. copied ≡ self.now) }
     {
         match self {
-            Request::Print(line) => Ok(Request::Print(line.copy(alloc)?)),
-            Request::NewRef(content) => Ok(Request::NewRef(content.copy(alloc)?)),
-            Request::Deref(cell) => Ok(Request::Deref(cell.copy(alloc)?)),
+            Request::Print(line) => line.copy(alloc).map(Request::Print),
+            Request::NewRef(content) => content.copy(alloc).map(Request::NewRef),
+            Request::Deref(cell) => cell.copy(alloc).map(Request::Deref),
             Request::RefSet(cell, content) => copy_ref_set(alloc, cell, content),
-            Request::Fork(body, frame) => Ok(Request::Fork(*body, frame.copy()?)),
-            Request::Join(future) => Ok(Request::Join(future.copy(alloc)?)),
-            Request::Dosync(body, frame) => Ok(Request::Dosync(*body, frame.copy()?)),
-            Request::Spawn(number, state) => Ok(Request::Spawn(*number, state.copy()?)),
+            Request::Fork(body, frame) => frame.copy().map(|frame| Request::Fork(*body, frame)),
+            Request::Join(future) => future.copy(alloc).map(Request::Join),
+            Request::Dosync(body, frame) => frame.copy().map(|frame| Request::Dosync(*body, frame)),
+            Request::Spawn(number, state) => state
+                .copy()
+                .map(|state| Request::Spawn(*number, state)),
             Request::Send(actor, message) => copy_send(alloc, actor, message),
-            Request::Become(number, state) => Ok(Request::Become(*number, state.copy()?)),
+            Request::Become(number, state) => state
+                .copy()
+                .map(|state| Request::Become(*number, state)),
             Request::SelfActor => Ok(Request::SelfActor),
         }
     }
