@@ -1,5 +1,5 @@
 ghost use Rattle.std.specs.Prelude.{◌≡◌, [], ◌∷◌, IfOk};
-ghost use Rattle.serial_model.specs.Operation.{mapped as mapped_of, action_of, sealed as sealed_of, deref_outcome, ref_set_outcome, join_outcome, of_first, of_one, of_two, send_outcome};
+ghost use Rattle.serial_model.specs.Operation.{Gives, mapped as mapped_of, action_of, sealed as sealed_of, deref_outcome, ref_set_outcome, join_outcome, of_first, of_one, of_two, send_outcome};
 ghost use Rattle.serial_model.specs.declared.request.Request.TheVariants as request;
 ghost use Rattle.value_core.specs.ToKey.{key_of as key_of_value};
 ghost use Rattle.value_core.specs.primitives.Apply.{limited as limited_of};
@@ -28,31 +28,42 @@ pub fn operate(
     ensures { IfOk result (λ outcome. meaning outcome ≡ finish frame.now node.now given.now) }
 {
     match node {
-        Node::Bool(truth) => Ok(Outcome::Gives(Known::unseen(Value::Bool(*truth)))),
-        Node::Int(number) => Ok(Outcome::Gives(Known::unseen(Value::Int(*number)))),
-        Node::Str(text) => Ok(Outcome::Gives(Known::unseen(Value::Str(text.copy(alloc)?)))),
-        Node::Kw(name) => Ok(Outcome::Gives(Known::unseen(Value::Kw(name.copy(alloc)?)))),
-        Node::Local(place) => Ok(Outcome::Gives(Known::unseen(local(alloc, frame, *place)?))),
+        Node::Bool(truth) => Ok(gives(Value::Bool(*truth))),
+        Node::Int(number) => Ok(gives(Value::Int(*number))),
+        Node::Str(text) => text.copy(alloc).map(|text| gives(Value::Str(text))),
+        Node::Kw(name) => name.copy(alloc).map(|name| gives(Value::Kw(name))),
+        Node::Local(place) => local(alloc, frame, *place).map(gives),
         Node::Map(_) => mapped(alloc, given),
-        Node::Println(_) => Ok(Outcome::Asks(Request::Print(print_line(alloc, given)?))),
+        Node::Println(_) => {
+            print_line(alloc, given).map(|line| Outcome::Asks(Request::Print(line)))
+        }
         Node::Ref(_) => new_ref(alloc, given),
         Node::Deref(_) => deref(alloc, given),
         Node::RefSet(_, _) => ref_set(alloc, given),
-        Node::Fork(body) => Ok(Outcome::Asks(Request::Fork(*body, copy_list(alloc, frame)?))),
+        Node::Fork(body) => {
+            copy_list(alloc, frame).map(|values| Outcome::Asks(Request::Fork(*body, values)))
+        }
         Node::Join(_) => join(alloc, given),
-        Node::Dosync(body) => Ok(Outcome::Asks(Request::Dosync(*body, copy_list(alloc, frame)?))),
-        Node::Spawn(number, _, _) => Ok(sealed(
-            given,
-            Request::Spawn(*number, copy_list(alloc, given)?),
-        )),
-        Node::Become(number, _, _) => Ok(sealed(
-            given,
-            Request::Become(*number, copy_list(alloc, given)?),
-        )),
+        Node::Dosync(body) => {
+            copy_list(alloc, frame).map(|values| Outcome::Asks(Request::Dosync(*body, values)))
+        }
+        Node::Spawn(number, _, _) => {
+            copy_list(alloc, given).map(|values| sealed(given, Request::Spawn(*number, values)))
+        }
+        Node::Become(number, _, _) => {
+            copy_list(alloc, given).map(|values| sealed(given, Request::Become(*number, values)))
+        }
         Node::Send(_, _) => send(alloc, given),
         Node::SelfActor => Ok(Outcome::Asks(Request::SelfActor)),
-        _ => Ok(Outcome::Gives(Known::unseen(Value::Nil))),
+        _ => Ok(gives(Value::Nil)),
     }
+}
+
+// The value, of which nothing is known.
+fn gives(value: Value) -> Outcome
+    ensures { meaning result ≡ Gives value }
+{
+    Outcome::Gives(Known::unseen(value))
 }
 
 // The map of these keys and values, by turns.

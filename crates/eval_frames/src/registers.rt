@@ -107,11 +107,10 @@ impl Registers {
     {
         match at {
             At::Halted => self.halt_answered(answer),
-            At::Begin(body) => At::Begin(body),
-            At::Enter(id) => At::Enter(id),
-            At::Deliver => At::Deliver,
-            At::Arguments(id, number) => At::Arguments(id, number),
-            At::Failed => At::Failed,
+            goes_on => {
+                drop(answer);
+                goes_on
+            }
         }
     }
 
@@ -120,6 +119,7 @@ impl Registers {
         ensures { standing result self.new ≡ halt_answered self.old.stop.halt answer }
     {
         let Halt::Ask(_, at) = &self.stop.halt else {
+            drop(answer);
             return At::Halted;
         };
         let at = *at;
