@@ -1,5 +1,5 @@
 // The first request that a turn holds is settled.
-ghost use Rattle.std.specs.Prelude.{◌≡◌, ◌∷◌, [], IfOk, None, true};
+ghost use Rattle.std.specs.Prelude.{◌≡◌, IfOk, None, true};
 ghost use Rattle.ahead_settling.specs.First.{is_told_alone, FirstComes, ForksOr, IsChild, IsNextMade, IsOpen};
 ghost use Rattle.serial_model.specs.declared.request.Request.{Request as Requested};
 ghost use Rattle.serial_model.specs.declared.request.Request.TheVariants as requests;
@@ -14,7 +14,6 @@ use crate::leaving::{Settling, finish, prepare};
 use crate::sends::settle_send;
 use core_syntax::NodeId;
 use eval_step::Machine;
-use ref_store::Writes;
 use serial_model::{End, Entry, Request};
 use shared_world::Given;
 use std::alloc::{AllocError, Global};
@@ -91,9 +90,7 @@ fn settle_new_ref(
     ensures { FirstComes (shared_of kept.old) name.now (requests.NewRef content) (shared_of kept.new) result }
 {
     let made = next_made(kept, alloc, name)?;
-    kept.check_new_ref(&made)?;
-    let writes = one_write(alloc, made, content)?;
-    let number = kept.next_number()?;
+    let (writes, number) = kept.first_version(alloc, made, content)?;
     let settling = prepare(kept, alloc, name)?;
     kept.store.reserve(alloc, &writes)?;
     kept.store.commit(writes, number);
@@ -108,15 +105,6 @@ fn next_made(kept: &Kept, alloc: Global, name: &Name) -> Result<Name, AllocError
         Some(turn) => name.child(alloc, turn.left_made()),
         None => Err(AllocError),
     }
-}
-
-/// That write alone.
-fn one_write(alloc: Global, name: Name, value: Value) -> Result<Writes, AllocError>
-    ensures { IfOk result (λ writes. writes.items ≡ (name, value) ∷ []) }
-{
-    let mut writes = Writes::new(alloc);
-    writes.put(name, value)?;
-    Ok(writes)
 }
 
 /// A new actor, which is idle.

@@ -122,17 +122,32 @@ impl Kept {
             told,
             count,
         } = made_next(alloc, name, self.made_of(name))?;
-        self.check_new_ref(&made)?;
-        let writes = one_write(alloc, made, content)?;
-        let number = self.next_number()?;
+        let (writes, number) = self.first_version(alloc, made, content)?;
         let ready = self.prepare(alloc, name, moved, Value::Ref(told))?;
         self.store.reserve(alloc, &writes)?;
         self.store.commit(writes, number);
         Ok(self.settle(name, ready, count))
     }
 
+    /// The first version of the ref, as the next entry has it: its write, and the number of that entry. Where the ref has a version already, of
+    /// which no run knows, it is taken for want of memory.
+    pub fn first_version(
+        &self,
+        alloc: Global,
+        made: Name,
+        content: Value,
+    ) -> Result<(Writes, u64), AllocError>
+        ensures none { OnOk result (versions_of self.now.store.versions made ≡ []) }
+        ensures write { IfOk result (λ version. version.0.items ≡ (made, content) ∷ []) }
+        ensures number { IfOk result (λ version. version.1 ≡ suc (length self.now.history.items)) }
+    {
+        self.check_new_ref(&made)?;
+        let number = self.next_number()?;
+        Ok((one_write(alloc, made, content)?, number))
+    }
+
     /// The ref has no version yet. Where it has one, of which no run knows, it is taken for want of memory.
-    pub fn check_new_ref(&self, made: &Name) -> Result<(), AllocError>
+    fn check_new_ref(&self, made: &Name) -> Result<(), AllocError>
         ensures { OnOk result (versions_of self.now.store.versions made.now ≡ []) }
     {
         match self.store.newest(made) {

@@ -27,18 +27,18 @@ returns c =
     let count : c.in_ok-made.field-0.count ≡ suc is.unit.made = c.in_ok-made.ensures.count_is ∙ ap suc made in
     let base = record old { versions = committed old.versions ((n, c.args.content) ∷ []) (suc (length old.history)) } in
     let before = record (shared_of c.prepare.new.self) { versions = c.commit.new.self.versions } in
-    let number = c.in_ok-number.number in
+    let number = c.in_ok-writes.number in
     let versions : c.commit.new.self.versions ≡ committed old.versions ((n, c.args.content) ∷ []) (suc (length old.history)) =
     c.commit.ensures.versions
     ∙ ap (λ vs. committed vs c.in_ok-writes.writes.items number) (c.in_ok-reserve.ensures.versions ∙ ap (λ (s : Shared). s.versions) c.in_ok-ready.ensures.same)
-    ∙ ap (λ ws. committed old.versions ws number) (c.in_ok-writes.ensures ∙ ap (λ k. (k, c.args.content) ∷ []) named_so)
-    ∙ ap (committed old.versions ((n, c.args.content) ∷ [])) c.in_ok-number.ensures in
+    ∙ ap (λ ws. committed old.versions ws number) (c.in_ok-writes.ensures.write ∙ ap (λ k. (k, c.args.content) ∷ []) named_so)
+    ∙ ap (committed old.versions ((n, c.args.content) ∷ [])) c.in_ok-writes.ensures.number in
     let at_base : before ≡ base = ap (λ (s : Shared). record s { versions = c.commit.new.self.versions }) c.in_ok-ready.ensures.same ∙ ap (λ vs. record old { versions = vs }) versions in
     let row = settled-so old base before new name c.args.moved c.in_ok-ready.ready.machine (value.Ref c.in_ok-made.field-0.told) c.in_ok-made.field-0.count c.settle.result c.requires.stands is refl is.there (same-claims old.board) refl
     at_base c.in_ok-ready.ensures.ready.given c.settle.ensures.found c.settle.ensures.set c.settle.ensures.others in
     record {
       row = row-for old.board name (λ (x : Unit). UnitGives old name x (halts.Ask (requests.NewRef c.args.content) c.args.at) c.settle.result new) is.unit is.there (record {
-        none = subst (λ k. versions_of old.versions k ≡ []) named_so c.in_ok-check_new_ref.ensures;
+        none = subst (λ k. versions_of old.versions k ≡ []) named_so c.in_ok-writes.ensures.none;
         settles = subst (λ k. Settles base name is.unit (record (unit_state is.unit) { answers = is.unit.machine.answers ++ answer.Value (value.Ref k) ∷ []; made = suc is.unit.made }) c.settle.result new) told
             (subst (λ m. Settles base name is.unit (record (unit_state is.unit) { answers = is.unit.machine.answers ++ answer.Value (value.Ref c.in_ok-made.field-0.told) ∷ []; made = m }) c.settle.result new) count row);
       });
