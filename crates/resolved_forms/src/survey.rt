@@ -108,11 +108,11 @@ fn survey_loop(
     let place = found.loops.items().len();
     add(&mut found.loops, LoopSurvey::empty(alloc))?;
     survey_initial(alloc, behaviours, parts, found)?;
-    let done = survey_body(alloc, behaviours, own, parts, &mut found.loops)?;
     add(
         &mut found.uses.units,
         function_unit(behaviours, own.number)?,
     )?;
+    let done = survey_body(alloc, behaviours, own, parts, &mut found.loops)?;
     found.levels.extend(done.levels.items())?;
     found.loops.set(place, done);
     Ok(())
