@@ -47,16 +47,25 @@ with_settings app =
       subcommand_required = true;
     }) app
 
+-- the parser with two commands more
+abbrev pub with_commands : App → App → App → App
+with_commands app first second = with_subcommand (with_subcommand app first.top) second.top
+
+-- with those that run a program within limits
+abbrev pub with_runs : App → App
+with_runs app = with_commands app (told_command (codes "run") run_form) (told_command (codes "schedule") schedule_form)
+
+-- with those that run none within limits of their own
+abbrev pub with_checks : App → App
+with_checks app = with_commands app (told_command (codes "replay") replay_form) (told_command (codes "check") check_form)
+
+-- with those of made programs
+abbrev pub with_makers : App → App
+with_makers app = with_commands app (told_command (codes "make") make_form) (told_command (codes "stress") stress_form)
+
 -- all commands
 abbrev pub told : App
-told =
-    with_subcommand (with_subcommand (with_subcommand (with_subcommand (with_subcommand (with_subcommand (with_settings (new_app (codes "chocola")))
-    (told_command (codes "run") run_form).top)
-    (told_command (codes "schedule") schedule_form).top)
-    (told_command (codes "replay") replay_form).top)
-    (told_command (codes "check") check_form).top)
-    (told_command (codes "make") make_form).top)
-    (told_command (codes "stress") stress_form).top
+told = with_makers (with_checks (with_runs (with_settings (new_app (codes "chocola")))))
 
 -- what stands behind two dashes
 abbrev pub behind_dashes : Word → Option Word
