@@ -9,6 +9,9 @@ ghost use Rattle.ref_store.specs.Store.{HasRoomFor};
 ghost use Rattle.shared_world.specs.Stands.{Stands};
 ghost use Rattle.unit_table.specs.Board.{unit_at};
 ghost use Rattle.value_core.specs.Named.{named, Rises};
+ghost use Rattle.attempt_commits.specs.Deeds.{AreVacant, CanHold};
+ghost use Rattle.attempt_commits.specs.Settling.{AreTurns};
+ghost use Rattle.value_core.specs.Placed.{filled};
 ghost use Rattle.world_model.specs.rows.Commits.{effects_bytes, what_bytes};
 
 use crate::deeds::{Deeds, deeds_of};
@@ -64,8 +67,13 @@ pub fn commit(
 {
     kept.units.claims_are_tied();
     let prepared = prepare(kept, alloc, owner, value)?;
-    kept.output
-        .extend_from_slice(prepared.gathered.text.as_slice())?;
+    let Ok(()) = kept
+        .output
+        .extend_from_slice(prepared.gathered.text.as_slice())
+    else {
+        drop(prepared);
+        return Err(AllocError);
+    };
     let Prepared {
         number,
         made,
@@ -108,8 +116,10 @@ fn prepare(
     let made = made_with_next(kept, owner)?;
     let gathered = gather(kept, alloc, owner)?;
     let ready = ready_unit(kept, alloc, owner, value)?;
-    let turns = turns_of(kept, alloc, &gathered.root, &gathered.deeds.counts)?;
-    room_for_deeds(kept, alloc, &gathered.deeds)?;
+    let Ok(turns) = turns_with_room(kept, alloc, &gathered) else {
+        drop((gathered, ready));
+        return Err(AllocError);
+    };
     Ok(Prepared {
         number,
         made,
@@ -117,6 +127,23 @@ fn prepare(
         turns,
         ready,
     })
+}
+
+/// The turns on the messages of what is gathered, and room for what it does to actors.
+fn turns_with_room(
+    kept: &mut Kept,
+    alloc: Global,
+    gathered: &Gathered,
+) -> Result<BTreeMap<Name, Name>, AllocError>
+    ensures same { IsSameBut (shared_of kept.old) (shared_of kept.new) }
+    ensures others { kept.new ≡ record kept.old { units = kept.new.units; mails = kept.new.mails } }
+    ensures turns { IfOk result (λ turns. AreTurns gathered.now.root gathered.now.deeds.counts.entries (filled kept.old.taken) kept.old.units turns.entries) }
+    ensures letters { OnOk result (CanHold gathered.now.deeds.counts.entries kept.new.mails) }
+    ensures actors { OnOk result (AreVacant gathered.now.deeds.actors.entries kept.new.units) }
+{
+    let turns = turns_of(kept, alloc, &gathered.root, &gathered.deeds.counts)?;
+    room_for_deeds(kept, alloc, &gathered.deeds)?;
+    Ok(turns)
 }
 
 /// How many things the unit has made with the one that it makes next.

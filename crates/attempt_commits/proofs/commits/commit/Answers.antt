@@ -70,7 +70,7 @@ returns c =
     let mid = c.drop_attempt-tasks.new.units in
     let settled = c.settle-given.new.self in
     let bytes : c.extend_from_slice.new.self.items ≡ old.bytes ++ g.text.items =
-    c.in_ok-extend_from_slice.ensures.items ∙ ap (λ t. base.bytes ++ t) c.as_slice.ensures.value ∙ ap (λ (s : Shared). s.bytes ++ g.text.items) same.rest in
+    c.in-Ok.ensures.items ∙ ap (λ t. base.bytes ++ t) c.as_slice.ensures.value ∙ ap (λ (s : Shared). s.bytes ++ g.text.items) same.rest in
     let is_new : new ≡ record (shared_of settled) { board = new.board; mails = new.mails; taken = new.taken } = ap (λ (k : Kept). shared_of (record k { units = c.forget_tasks.new.units })) c.do_deeds.ensures.others in
     let so = is_new ∙ ap (λ (s : Shared). record s { board = new.board; mails = new.mails; taken = new.taken }) c.settle-given.ensures.others in
     let versions : new.versions ≡ c.prune.new.store.versions = ap (λ (s : Shared). s.versions) so in

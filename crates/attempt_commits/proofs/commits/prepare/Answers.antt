@@ -12,7 +12,7 @@ returns-clause-prepared c = record {
   turns =
       let g = c.in_ok-gathered.gathered in
       let same = c.in_ok-ready.ensures.others ∙ ap (λ (k : Kept). record k { history = c.ready_unit.new.kept.history }) c.in_ok-gathered.ensures.others in
-      subst (λ (k : Kept). AreTurns g.root g.deeds.counts.entries (filled k.taken) k.units c.in_ok-turns.turns.entries) same c.in_ok-turns.ensures;
+      subst (λ (k : Kept). AreTurns g.root g.deeds.counts.entries (filled k.taken) k.units c.in-Ok.turns.entries) same c.in-Ok.ensures.turns;
   store = search rules;
   ready = search rules;
   letters = search rules;
