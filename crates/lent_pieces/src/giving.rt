@@ -205,11 +205,17 @@ fn give_moved(
     requires there { IsSome (kept_machine (shared_of kept.old) name.now) }
     ensures { GivesTo (shared_of kept.old) name.now (shared_of kept.new) result }
 {
-    let Moved { machine, halt } = moved;
-    match stander_of(kept, alloc, name)? {
-        Stander::Unit => kept.give_unit(alloc, name, machine, halt),
-        Stander::Task(owner) => step_task(kept, alloc, &owner, name, machine, halt),
-        Stander::Actor => Err(AllocError),
+    let Ok(stander) = stander_of(kept, alloc, name) else {
+        drop(moved);
+        return Err(AllocError);
+    };
+    match stander {
+        Stander::Unit => kept.give_unit(alloc, name, moved.machine, moved.halt),
+        Stander::Task(owner) => { step_task(kept, alloc, &owner, name, moved.machine, moved.halt) }
+        Stander::Actor => {
+            drop(moved);
+            Err(AllocError)
+        }
     }
 }
 
