@@ -45,8 +45,8 @@ impl Done {
     pub fn copy(&self, alloc: Global) -> Result<Done, AllocError>
         ensures { IfOk result (λ copied. copied ≡ self.now) }
     {
-        let parts = self.parts.copy(alloc)?;
-        Ok(Done::new(self.program.clone()?, parts))
+        let program = self.program.clone()?;
+        Ok(Done::new(program, self.parts.copy(alloc)?))
     }
 
     /// The claim's ticket.
