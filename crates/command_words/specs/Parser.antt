@@ -51,21 +51,13 @@ with_settings app =
 abbrev pub with_commands : App → App → App → App
 with_commands app first second = with_subcommand (with_subcommand app first.top) second.top
 
--- with those that run a program within limits
-abbrev pub with_runs : App → App
-with_runs app = with_commands app (told_command (codes "run") run_form) (told_command (codes "schedule") schedule_form)
-
--- with those that run none within limits of their own
-abbrev pub with_checks : App → App
-with_checks app = with_commands app (told_command (codes "replay") replay_form) (told_command (codes "check") check_form)
-
--- with those of made programs
-abbrev pub with_makers : App → App
-with_makers app = with_commands app (told_command (codes "make") make_form) (told_command (codes "stress") stress_form)
-
 -- all commands
 abbrev pub told : App
-told = with_makers (with_checks (with_runs (with_settings (new_app (codes "chocola")))))
+told =
+    with_commands (with_commands (with_commands (with_settings (new_app (codes "chocola")))
+    (told_command (codes "run") run_form) (told_command (codes "schedule") schedule_form))
+    (told_command (codes "replay") replay_form) (told_command (codes "check") check_form))
+    (told_command (codes "make") make_form) (told_command (codes "stress") stress_form)
 
 -- what stands behind two dashes
 abbrev pub behind_dashes : Word → Option Word

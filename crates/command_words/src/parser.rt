@@ -1,6 +1,6 @@
 ghost use Rattle.std.specs.Prelude.{◌≡◌, IfOk, codes, false, map};
 ghost use Rattle.clap.specs.Words.{App, Rule, app_of, new_app, rule_of, with_rule, with_subcommand};
-ghost use Rattle.command_words.specs.Parser.{IsLocal, IsTold, told, told_command, told_option, told_place, with_checks, with_makers, with_rules, with_runs, with_settings};
+ghost use Rattle.command_words.specs.Parser.{IsLocal, IsTold, told, told_command, told_option, told_place, with_commands, with_rules, with_settings};
 ghost use Rattle.command_words.specs.Said.{check_form, limit_options, make_form, replay_form, run_form, schedule_form, stress_form};
 
 use clap::{Arg, Command};
@@ -10,9 +10,9 @@ use std::alloc::{AllocError, Global};
 pub(crate) fn parser<'a>(alloc: Global) -> Result<Command<'a>, AllocError>
     ensures { IfOk result (λ parser. app_of parser ≡ told) }
 {
-    let parser = with_runs(alloc, settled(alloc));
-    let parser = with_checks(alloc, parser);
-    with_makers(alloc, parser)
+    let parser = with_commands(settled(alloc), run(alloc), schedule(alloc));
+    let parser = with_commands(parser, replay(alloc), check(alloc));
+    with_commands(parser, make(alloc), stress(alloc))
 }
 
 /// The parser that knows no command yet.
@@ -26,39 +26,6 @@ fn settled<'a>(alloc: Global) -> Result<Command<'a>, AllocError>
             .disable_help_subcommand(true)
             .subcommand_required(true),
     )
-}
-
-/// The parser with the commands that run a program within limits.
-fn with_runs<'a>(
-    alloc: Global,
-    parser: Result<Command<'a>, AllocError>,
-) -> Result<Command<'a>, AllocError>
-    ensures { (app : App) → IsTold parser.entry app → IsTold result (with_runs app) }
-{
-    let parser = with_command(parser, run(alloc));
-    with_command(parser, schedule(alloc))
-}
-
-/// The parser with the commands that run none within limits of their own.
-fn with_checks<'a>(
-    alloc: Global,
-    parser: Result<Command<'a>, AllocError>,
-) -> Result<Command<'a>, AllocError>
-    ensures { (app : App) → IsTold parser.entry app → IsTold result (with_checks app) }
-{
-    let parser = with_command(parser, replay(alloc));
-    with_command(parser, check(alloc))
-}
-
-/// The parser with the commands of made programs.
-fn with_makers<'a>(
-    alloc: Global,
-    parser: Result<Command<'a>, AllocError>,
-) -> Result<Command<'a>, AllocError>
-    ensures { (app : App) → IsTold parser.entry app → IsTold result (with_makers app) }
-{
-    let parser = with_command(parser, make(alloc));
-    with_command(parser, stress(alloc))
 }
 
 fn run<'a>(alloc: Global) -> Result<Command<'a>, AllocError>
@@ -150,6 +117,19 @@ fn with_arg<'a>(
             Err(failed)
         }
     }
+}
+
+/// The parser with these two commands too.
+fn with_commands<'a>(
+    parser: Result<Command<'a>, AllocError>,
+    first: Result<Command<'a>, AllocError>,
+    second: Result<Command<'a>, AllocError>,
+) -> Result<Command<'a>, AllocError>
+    requires first { IsLocal first }
+    requires second { IsLocal second }
+    ensures { (app : App) (one : App) (two : App) → IsTold parser.entry app → IsTold first.entry one → IsTold second.entry two → IsTold result (with_commands app one two) }
+{
+    with_command(with_command(parser, first), second)
 }
 
 /// The parser with that command too.

@@ -1,4 +1,0 @@
-use Rattle.command_words.proofs.parser.with_runs.Goals as goal
-
-pub returns : goal.returns
-returns c = λ app is. c.with_command.ensures _ _ (c.with_command-parser.ensures app _ is c.run.ensures.told) c.schedule.ensures.told
