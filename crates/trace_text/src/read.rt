@@ -7,7 +7,7 @@ use crate::error::TraceNo;
 use crate::line::{Line, read_line};
 use crate::no::LineNo;
 use crate::parts::read_limits;
-use serial_model::{Entry, History, LineKind, Trace};
+use serial_model::{End, Entry, History, Limits, LineKind, Trace};
 use std::alloc::Global;
 
 /// The most bytes that a trace is read from.
@@ -24,31 +24,38 @@ pub fn read_trace(alloc: Global, bytes: &[u8]) -> Result<Trace, TraceNo>
             line: 1,
         });
     }
-    read_lines(alloc, bytes)
+    let mut history = History::new(alloc);
+    match read_lines(alloc, bytes, &mut history) {
+        Ok((limits, end)) => Ok(Trace {
+            limits,
+            history,
+            end,
+        }),
+        Err(no) => {
+            drop(history);
+            Err(no)
+        }
+    }
 }
 
-fn read_lines(alloc: Global, bytes: &[u8]) -> Result<Trace, TraceNo>
-    requires { length bytes.now ≤ trace_limit }
-    ensures trace { IfOk result (λ trace. IsTextOfTrace trace bytes.now) }
+/// The limits and the end of the trace that the bytes are the text of; its entries are put into the history, which has none yet.
+fn read_lines(alloc: Global, bytes: &[u8], history: &mut History) -> Result<(Limits, End), TraceNo>
+    requires within { length bytes.now ≤ trace_limit }
+    requires none { history.old.items ≡ [] }
+    ensures trace { IfOk result (λ (limits, end).
+        IsTextOfTrace (record { limits = limits; history = history.new; end = end }) bytes.now) }
     ensures refused { IfErr result (λ no. IsWhy no bytes.now) }
 {
     let after_head = after_prefix(bytes, b"chocola-trace 1\n").ok_or(LineNo::Bad.at(1))?;
     let (line, after_limits) = cut(after_head, b'\n').ok_or(LineNo::Bad.at(2))?;
     let limits = at_line(read_limits(alloc, line), 2)?;
-    let mut history = History::new(alloc);
     let mut rest = after_limits;
     let mut number = 3;
     while let Some((line, after)) = cut(rest, b'\n') {
         match at_line(read_line(alloc, line), number)? {
-            Line::Entry(entry) => push(&mut history, entry)?,
+            Line::Entry(entry) => push(history, entry)?,
             Line::End(_) if !after.is_empty() => return Err(LineNo::Bad.at(number + 1)),
-            Line::End(end) => {
-                return Ok(Trace {
-                    limits,
-                    history,
-                    end,
-                });
-            }
+            Line::End(end) => return Ok((limits, end)),
         }
         rest = after;
         number += 1;

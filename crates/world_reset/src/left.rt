@@ -1,12 +1,13 @@
 // Where the history left a unit that runs ahead of it.
 ghost use Rattle.std.specs.Prelude.{◌≡◌, IfOk, OnOk};
-ghost use Rattle.eval_step.specs.Evaluation.{IsOf};
+ghost use Rattle.core_syntax.specs.Table.{Table};
+ghost use Rattle.eval_step.specs.Evaluation.{IsAsking, IsOf};
 ghost use Rattle.turns_ahead.specs.Leading.{ahead_of};
 ghost use Rattle.world_reset.specs.Left.{HasGoneOn, IsLeft, IsLeftMachine, LeadsTo};
 
 use core_syntax::Program;
 use eval_step::Machine;
-use serial_model::Halt;
+use serial_model::{Halt, Request};
 use std::alloc::{AllocError, Global};
 use tentative_turn::{count_made, foretell};
 use turns_ahead::TurnAhead;
@@ -130,10 +131,28 @@ fn go_on(
 {
     match machine.run_to_ask(alloc, program)? {
         Halt::Ask(request, _) => {
-            let answer = foretell(alloc, turn, actor, made, &request)?.ok_or(AllocError)?;
-            machine.answer(alloc, answer)?;
-            made.checked_add(count_made(&request)).ok_or(AllocError)
+            let told = tell(machine, alloc, turn, actor, made, &request);
+            drop(request);
+            told
         }
         Halt::Value(_) | Halt::Fault(_, _) | Halt::Spent => Err(AllocError),
     }
+}
+
+/// The machine, which asks for that, is told the answer, where it can be told of the turn, which has made so many things. How many it has
+/// made then.
+fn tell(
+    machine: &mut Machine,
+    alloc: Global,
+    turn: &Name,
+    actor: &Name,
+    made: u32,
+    request: &Request,
+) -> Result<u32, AllocError>
+    requires { IsAsking machine.old }
+    ensures { OnOk result ((program : Table) → IsOf program machine.old → HasGoneOn program 1 machine.old machine.new) }
+{
+    let answer = foretell(alloc, turn, actor, made, request)?.ok_or(AllocError)?;
+    machine.answer(alloc, answer)?;
+    made.checked_add(count_made(request)).ok_or(AllocError)
 }

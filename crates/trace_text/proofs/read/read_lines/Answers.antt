@@ -12,14 +12,14 @@ pub returns-in_err-after_head-clause-refused : goal.returns-in_err-after_head-cl
 returns-in_err-after_head-clause-refused c =
     handed_on c.args.bytes.now c.from_residual.result c.in_err-after_head.field-0.0 c.from_residual.ensures.1
     (for_no_value c.args.bytes.now c.after_prefix.result c.at.result c.in_err-after_head.field-0.0 1 (sym c.ok_or.ensures.value ∙ c.in_err-after_head.was) c.at.ensures
-    (λ none. refused_head c.args.bytes.now c.requires (c.after_prefix.ensures.none none)))
+    (λ none. refused_head c.args.bytes.now c.requires.within (c.after_prefix.ensures.none none)))
 
 pub returns-in_err-line-clause-refused : goal.returns-in_err-line-clause-refused
 returns-in_err-line-clause-refused c =
     let starts = given c.after_prefix.result c.at.result c.in_ok-after_head.after_head _ (sym c.ok_or.ensures.value ∙ c.in_ok-after_head.was) c.after_prefix.ensures.some in
     handed_on c.args.bytes.now c.from_residual-in_err-line.result c.in_err-line.field-0.0 c.from_residual-in_err-line.ensures.1
     (for_no_value c.args.bytes.now c.cut.result c.at-2.result c.in_err-line.field-0.0 2 (sym c.ok_or-2.ensures.value ∙ c.in_err-line.was) c.at-2.ensures
-    (λ none. refused_limits c.args.bytes.now c.in_ok-after_head.after_head.now c.requires starts (no_limits_uncut c.in_ok-after_head.after_head.now (c.cut.ensures.none none))))
+    (λ none. refused_limits c.args.bytes.now c.in_ok-after_head.after_head.now c.requires.within starts (no_limits_uncut c.in_ok-after_head.after_head.now (c.cut.ensures.none none))))
 
 pub returns-in_err-limits-clause-refused : goal.returns-in_err-limits-clause-refused
 returns-in_err-limits-clause-refused c =
@@ -27,7 +27,7 @@ returns-in_err-limits-clause-refused c =
     let parts = given c.cut.result c.at-2.result (c.in_ok-line.line, c.in_ok-line.after_limits) _ (sym c.ok_or-2.ensures.value ∙ c.in_ok-line.was) c.cut.ensures.some in
     handed_on c.args.bytes.now c.from_residual-in_err-limits.result c.in_err-limits.field-0.0 c.from_residual-in_err-limits.ensures.1
     (not_read c.args.bytes.now c.read_limits.result c.at_line.result 2 c.in_err-limits.field-0.0 c.at_line.ensures c.in_err-limits.was
-    (λ bad. refused_limits c.args.bytes.now c.in_ok-after_head.after_head.now c.requires starts
+    (λ bad. refused_limits c.args.bytes.now c.in_ok-after_head.after_head.now c.requires.within starts
     (no_limits_lead c.in_ok-after_head.after_head.now c.in_ok-line.line.now c.in_ok-line.after_limits.now parts (c.read_limits.ensures.bad bad))))
 
 pub loop-line-init : goal.loop-line-init
@@ -38,9 +38,9 @@ loop-line-init c =
     let passed = passed_limits c.args.bytes.now c.in_ok-after_head.after_head.now c.in_ok-line.line.now c.in_ok-line.after_limits.now c.in_ok-limits.limits starts parts is in
     let longer = length_cut 10 c.in_ok-after_head.after_head.now c.in_ok-line.line.now c.in_ok-line.after_limits.now parts in
     let whole = ap length starts in
-    let none = ap length c.new-history.ensures in
+    let none = ap length c.requires.none in
     record {
-      passed = subst (λ entries. Passed c.args.bytes.now c.in_ok-limits.limits entries c.in_ok-line.after_limits.now) (sym c.new-history.ensures) passed;
+      passed = subst (λ entries. Passed c.args.bytes.now c.in_ok-limits.limits entries c.in_ok-line.after_limits.now) (sym c.requires.none) passed;
       numbered = omega arith;
       within = omega arith;
     }
@@ -49,7 +49,7 @@ pub returns-in_err-entry-clause-refused : goal.returns-in_err-entry-clause-refus
 returns-in_err-entry-clause-refused c =
     handed_on c.args.bytes.now c.from_residual-in_err-entry.result c.in_err-entry.field-0.0 c.from_residual-in_err-entry.ensures.1
     (not_read c.args.bytes.now c.read_line.result c.at_line-in-Some.result c.loop-line.number c.in_err-entry.field-0.0 c.at_line-in-Some.ensures c.in_err-entry.was
-    (λ bad. refused_here c.args.bytes.now c.in_ok-limits.limits c.loop-line.history.items c.loop-line.rest.now c.loop-line.number c.requires c.loop-line.invariant.passed
+    (λ bad. refused_here c.args.bytes.now c.in_ok-limits.limits c.loop-line.history.items c.loop-line.rest.now c.loop-line.number c.requires.within c.loop-line.invariant.passed
     (none_leads c.loop-line.rest.now c.in-Some.line.now c.in-Some.after.now c.in-Some.ensures.some (c.read_line.ensures.bad bad)) c.loop-line.invariant.numbered))
 
 pub returns-in-End-clause-refused : goal.returns-in-End-clause-refused
@@ -57,14 +57,14 @@ returns-in-End-clause-refused c =
     let is = was_read c.read_line.result c.at_line-in-Some.result c.loop-line.number c.in_ok-entry.field-0 (λ l. IsLineText l c.in-Some.line.now) c.at_line-in-Some.ensures c.in_ok-entry.was c.read_line.ensures.ok in
     let is_end = subst (λ l. IsLineText l c.in-Some.line.now) c.in-End.is is in
     subst (λ why. IsWhy why c.args.bytes.now) (sym c.at-in-End.ensures)
-    (refused_after c.args.bytes.now c.in_ok-limits.limits c.loop-line.history.items c.loop-line.rest.now c.in-Some.line.now c.in-Some.after.now c.in-End.field-0 (c.loop-line.number + 1) c.requires c.loop-line.invariant.passed
+    (refused_after c.args.bytes.now c.in_ok-limits.limits c.loop-line.history.items c.loop-line.rest.now c.in-Some.line.now c.in-Some.after.now c.in-End.field-0 (c.loop-line.number + 1) c.requires.within c.loop-line.invariant.passed
     c.in-Some.ensures.some is_end (some_text c.in-Some.after.now c.if-not-is_empty.ensures) (omega (arith, c.loop-line.invariant.numbered)))
 
 pub returns-in-End-2-clause-trace : goal.returns-in-End-2-clause-trace
 returns-in-End-2-clause-trace c =
     let is = was_read c.read_line.result c.at_line-in-Some.result c.loop-line.number c.in_ok-entry.field-0 (λ l. IsLineText l c.in-Some.line.now) c.at_line-in-Some.ensures c.in_ok-entry.was c.read_line.ensures.ok in
     let is_end = subst (λ l. IsLineText l c.in-Some.line.now) c.in-End.is is in
-    taken c.args.bytes.now c.in_ok-limits.limits c.loop-line.history c.loop-line.rest.now c.in-Some.line.now c.in-Some.after.now c.in-End.field-0 c.requires c.loop-line.invariant.passed
+    taken c.args.bytes.now c.in_ok-limits.limits c.loop-line.history c.loop-line.rest.now c.in-Some.line.now c.in-Some.after.now c.in-End.field-0 c.requires.within c.loop-line.invariant.passed
     c.in-Some.ensures.some is_end (no_text c.in-Some.after.now c.if-not-is_empty.ensures)
 
 pub loop-line-preserved : goal.loop-line-preserved
@@ -85,5 +85,5 @@ loop-line-preserved c =
 pub returns-clause-refused : goal.returns-clause-refused
 returns-clause-refused c =
     subst (λ why. IsWhy why c.args.bytes.now) (sym c.at-3.ensures)
-    (refused_here c.args.bytes.now c.in_ok-limits.limits c.loop-line.history.items c.loop-line.rest.now c.loop-line.number c.requires c.loop-line.invariant.passed
+    (refused_here c.args.bytes.now c.in_ok-limits.limits c.loop-line.history.items c.loop-line.rest.now c.loop-line.number c.requires.within c.loop-line.invariant.passed
     (none_leads_uncut c.loop-line.rest.now (c.cut-in-loop-line.ensures.none (none_left c.cut-in-loop-line.result c.in_default.not-Some))) c.loop-line.invariant.numbered)
