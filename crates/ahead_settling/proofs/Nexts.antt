@@ -5,10 +5,8 @@ use Rattle.std.specs.Prelude.{Err, None, Ok, Option, Result, Some, is_some, not}
 use Rattle.std.specs.declared.alloc.AllocError.{AllocError}
 use Rattle.ahead_settling.proofs.Wakes.{waiters-of}
 use Rattle.ahead_settling.specs.Beginning.{BeginComes, HoldsIts}
-use Rattle.ahead_settling.specs.declared.settling.NextHeld.{NextHeld}
-use Rattle.ahead_settling.specs.declared.settling.NextHeld.TheVariants as next
 use Rattle.ahead_settling.specs.First.{FirstComes, IsOpen}
-use Rattle.ahead_settling.specs.Settling.{HoldsBegin, HoldsFirst, IsFirstHeld, IsNextHeld, NextSettled, SettlesComes}
+use Rattle.ahead_settling.specs.Settling.{HoldsBegin, HoldsFirst, IsNextHeld, NextSettled, SettlesComes}
 use Rattle.serial_model.specs.declared.request.Request.{Request}
 use Rattle.shared_world.specs.Ahead.{Ahead}
 use Rattle.shared_world.specs.declared.given.Given.{Given}
@@ -18,7 +16,10 @@ use Rattle.shared_world.specs.Shared.{Shared}
 use Rattle.shared_world.specs.Stands.{Stands}
 use Rattle.tentative_turn.specs.declared.held_effect.HeldEffect.{HeldEffect}
 use Rattle.tentative_turn.specs.declared.held_effect.HeldEffect.TheVariants as held
+use Rattle.turns_ahead.specs.declared.next_held.NextHeld.{NextHeld}
+use Rattle.turns_ahead.specs.declared.next_held.NextHeld.TheVariants as next
 use Rattle.turns_ahead.specs.Leading.{Leading, ahead_of, asked, first_asked}
+use Rattle.turns_ahead.specs.Next.{IsFirstHeld}
 use Rattle.unit_table.specs.Board.{unit_at}
 use Rattle.unit_table.specs.declared.unit.Unit.{Unit}
 use Rattle.value_core.proofs.NamedViews.{view_found}

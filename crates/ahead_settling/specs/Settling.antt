@@ -1,15 +1,14 @@
 -- What comes of a turn that runs ahead, once the next that it holds is settled.
 use Rattle.std.specs.Prelude.{◌≡◌, ◌∷◌, Err, List, None, Ok, Result, Some, true}
 use Rattle.std.specs.declared.alloc.AllocError.{AllocError}
-use Rattle.ahead_settling.specs.declared.settling.NextHeld.{NextHeld}
-use Rattle.ahead_settling.specs.declared.settling.NextHeld.TheVariants as next
 use Rattle.serial_model.specs.declared.request.Request.{Request}
 use Rattle.shared_world.specs.Ahead.{Ahead}
 use Rattle.shared_world.specs.declared.given.Given.{Given}
 use Rattle.shared_world.specs.rows.Leading.{NextSettles, is_definite}
 use Rattle.shared_world.specs.rows.Pieces.{ClaimsEnd}
 use Rattle.shared_world.specs.Shared.{Shared}
-use Rattle.turns_ahead.specs.Leading.{Leading, begins, first_asked}
+use Rattle.turns_ahead.specs.declared.next_held.NextHeld.{NextHeld}
+use Rattle.turns_ahead.specs.declared.next_held.NextHeld.TheVariants as next
 use Rattle.unit_table.specs.Board.{unit_at}
 use Rattle.unit_table.specs.declared.unit.Unit.{Unit}
 use Rattle.value_core.specs.Named.{Name, named, same_name}
@@ -48,8 +47,3 @@ pub record HoldsFirst (s : Shared) (u : Name) (r : Request) : Type 0 where
 abbrev pub IsNextHeld : Shared → Name → NextHeld → Type 0
 IsNextHeld s u (next.Begin actor) = HoldsBegin s u actor
 IsNextHeld s u (next.Asked request) = HoldsFirst s u request
-
--- that is what the turn holds first
-abbrev pub IsFirstHeld : Leading → NextHeld → Type 0
-IsFirstHeld l (next.Begin actor) = begins l.turn.effects ≡ Some actor
-IsFirstHeld l (next.Asked request) = (begins l.turn.effects ≡ None) × (first_asked l.turn.effects ≡ Some request)

@@ -1,30 +1,21 @@
 // The next that a turn holds is settled.
 ghost use Rattle.std.specs.Prelude.{◌≡◌, IfOk, None, OnOk};
 ghost use Rattle.std.specs.Option.{IsSome};
-ghost use Rattle.ahead_settling.specs.Settling.{IsFirstHeld, IsNextHeld, SettlesComes};
+ghost use Rattle.ahead_settling.specs.Settling.{IsNextHeld, SettlesComes};
 ghost use Rattle.shared_world.specs.Marks.{AreMarked};
 ghost use Rattle.shared_world.specs.Stands.{Stands};
-ghost use Rattle.turns_ahead.specs.Leading.{begins};
 ghost use Rattle.unit_table.specs.Board.{unit_at};
 ghost use Rattle.world_steps.specs.Kept.{shared_of};
 
 use crate::beginning::settle_begin;
 use crate::requests::settle_request;
-use serial_model::Request;
 use shared_world::Given;
 use std::alloc::{AllocError, Global};
-use turns_ahead::TurnAhead;
+use turns_ahead::NextHeld;
 use unit_table::Units;
 use value_core::Name;
 use value_core::name_map::find;
 use world_steps::Kept;
-
-/// What a turn holds first: the begin of a turn of that actor, or a request.
-#[derive(Drop)]
-pub(crate) enum NextHeld {
-    Begin(Name),
-    Asked(Request),
-}
 
 /// The next that a turn holds is settled: its begin, where that is held, and else the first request. The turn is definite. A turn that
 /// holds nothing then runs ahead no more, and the tasks that wait for that are ready to settle. What no run can meet, as a unit that
@@ -57,28 +48,7 @@ fn next_held(kept: &Kept, alloc: Global, name: &Name) -> Result<NextHeld, AllocE
     ensures { IfOk result (IsNextHeld (shared_of kept.now) name.now) }
 {
     match find(&kept.aheads, name) {
-        Some(turn) => first_held(turn, alloc),
-        None => Err(AllocError),
-    }
-}
-
-/// What it holds first.
-fn first_held(turn: &TurnAhead, alloc: Global) -> Result<NextHeld, AllocError>
-    ensures { IfOk result (IsFirstHeld turn.now) }
-{
-    match turn.takes() {
-        Some(actor) => Ok(NextHeld::Begin(actor.copy(alloc)?)),
-        None => first_asked(turn, alloc),
-    }
-}
-
-/// The request that it holds first, where its begin is not held.
-fn first_asked(turn: &TurnAhead, alloc: Global) -> Result<NextHeld, AllocError>
-    requires { begins turn.now.turn.effects ≡ None }
-    ensures { IfOk result (IsFirstHeld turn.now) }
-{
-    match turn.first_request() {
-        Some(request) => Ok(NextHeld::Asked(request.copy(alloc)?)),
+        Some(turn) => turn.next_held(alloc),
         None => Err(AllocError),
     }
 }

@@ -9,7 +9,7 @@ ghost use Rattle.ref_store.specs.Store.{HasRoomFor};
 ghost use Rattle.shared_world.specs.Stands.{Stands};
 ghost use Rattle.unit_table.specs.Board.{unit_at};
 ghost use Rattle.value_core.specs.Named.{named, Rises};
-ghost use Rattle.attempt_commits.specs.Deeds.{AreVacant, CanHold};
+ghost use Rattle.attempt_commits.specs.Deeds.{AreDeeds, AreVacant, CanHold};
 ghost use Rattle.attempt_commits.specs.Settling.{AreTurns};
 ghost use Rattle.value_core.specs.Placed.{filled};
 ghost use Rattle.world_model.specs.rows.Commits.{effects_bytes, what_bytes};
@@ -112,10 +112,18 @@ fn prepare(
     ensures others { kept.new ≡ record kept.old { history = kept.new.history; store = kept.new.store; units = kept.new.units; mails = kept.new.mails } }
     ensures prepared { IfOk result (IsPreparedFor (shared_of kept.old) kept.new owner.now value) }
 {
-    let number = kept.next_number()?;
-    let made = made_with_next(kept, owner)?;
-    let gathered = gather(kept, alloc, owner)?;
-    let ready = ready_unit(kept, alloc, owner, value)?;
+    let Ok((number, made)) = numbers_of(kept, owner) else {
+        drop(value);
+        return Err(AllocError);
+    };
+    let Ok(gathered) = gather(kept, alloc, owner) else {
+        drop(value);
+        return Err(AllocError);
+    };
+    let Ok(ready) = ready_unit(kept, alloc, owner, value) else {
+        drop(gathered);
+        return Err(AllocError);
+    };
     let Ok(turns) = turns_with_room(kept, alloc, &gathered) else {
         drop((gathered, ready));
         return Err(AllocError);
@@ -144,6 +152,16 @@ fn turns_with_room(
     let turns = turns_of(kept, alloc, &gathered.root, &gathered.deeds.counts)?;
     room_for_deeds(kept, alloc, &gathered.deeds)?;
     Ok(turns)
+}
+
+/// The number of the next entry, and how many things the unit has made with the one that it makes next.
+fn numbers_of(kept: &Kept, name: &Name) -> Result<(u64, u32), AllocError>
+    requires there { IsSome (unit_at kept.now.units name.now) }
+    ensures number { IfOk result (λ n. n.0 ≡ suc (length kept.now.history.items)) }
+    ensures made { IfOk result (λ n. IfSome (unit_at kept.now.units name.now) (λ x. n.1 ≡ suc x.made)) }
+{
+    let number = kept.next_number()?;
+    Ok((number, made_with_next(kept, name)?))
 }
 
 /// How many things the unit has made with the one that it makes next.
@@ -215,9 +233,16 @@ fn run_on(alloc: Global, machine: &Machine, program: &Program) -> Result<Machine
     ensures asks { IfOk result IsAsking }
 {
     let mut moved = machine.copy(alloc)?;
-    match moved.run_to_ask(alloc, program)? {
-        Halt::Ask(_, _) => Ok(moved),
-        Halt::Value(_) | Halt::Fault(_, _) | Halt::Spent => Err(AllocError),
+    let halt = moved.run_to_ask(alloc, program)?;
+    match &halt {
+        Halt::Ask(_, _) => {
+            drop(halt);
+            Ok(moved)
+        }
+        Halt::Value(_) | Halt::Fault(_, _) | Halt::Spent => {
+            drop(halt);
+            Err(AllocError)
+        }
     }
 }
 
@@ -230,13 +255,13 @@ fn gathered_of(
 ) -> Result<Gathered, AllocError>
     ensures { IfOk result (IsGatheredOf owner.now tree.now attempts.now.entries) }
 {
-    let root = tree.root_name().copy(alloc)?;
     let log = tree.root();
-    let effects = list_effects(alloc, log.effects())?;
-    let text = printed(alloc, &effects)?;
-    let writes = written(alloc, log)?;
-    let deeds = deeds_of(alloc, owner, &effects)?;
     let live = room_for_snapshots(alloc, attempts)?;
+    let (text, deeds) = done_by(alloc, owner, log)?;
+    let Ok((root, writes)) = named_writes(alloc, tree.root_name(), log) else {
+        drop((live, text, deeds));
+        return Err(AllocError);
+    };
     Ok(Gathered {
         root,
         writes,
@@ -244,6 +269,26 @@ fn gathered_of(
         deeds,
         live,
     })
+}
+
+/// What the effects of the task print, and what they do to actors.
+fn done_by(alloc: Global, owner: &Name, log: &TaskLog) -> Result<(Vec<u8>, Deeds), AllocError>
+    ensures text { IfOk result (λ done. done.0.items ≡ effects_bytes log.now.log.effects) }
+    ensures deeds { IfOk result (λ done. AreDeeds owner.now log.now.log.effects done.1) }
+{
+    let effects = list_effects(alloc, log.effects())?;
+    let text = printed(alloc, &effects)?;
+    Ok((text, deeds_of(alloc, owner, &effects)?))
+}
+
+/// That name, and the refs that the task wrote, with their values.
+fn named_writes(alloc: Global, name: &Name, log: &TaskLog) -> Result<(Name, Writes), AllocError>
+    ensures name { IfOk result (λ found. found.0 ≡ name.now) }
+    ensures writes { IfOk result (λ found. found.1.items ≡ log.now.log.writes) }
+    ensures rises { OnOk result (Rises log.now.log.writes) }
+{
+    let writes = written(alloc, log)?;
+    Ok((name.copy(alloc)?, writes))
 }
 
 /// The refs that the task wrote, with their values.

@@ -186,7 +186,10 @@ pub fn give_to(
             let moved = moved_on(alloc, machine, halt, &kept.program)?;
             give_moved(kept, alloc, name, moved)
         }
-        None => give_ended(kept, alloc, name),
+        None => {
+            drop(halt);
+            give_ended(kept, alloc, name)
+        }
     }
 }
 

@@ -136,7 +136,10 @@ fn go_on(
             let moved = moved_on(alloc, machine, halt, &kept.program)?;
             go_moved(kept, alloc, name, moved)
         }
-        None => Err(AllocError),
+        None => {
+            drop(halt);
+            Err(AllocError)
+        }
     }
 }
 

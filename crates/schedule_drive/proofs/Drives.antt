@@ -3,8 +3,8 @@ use Rattle.std.proofs.Common.{◌≡◌, ◌∙◌, ◌++◌, ◌∷◌, [], Boo
 use Rattle.schedule_drive.specs.Drive.{Abandons, Comes, Does, DoesIf, Drives, Stage, can_do}
 use Rattle.schedule_drive.specs.Entries.{entries_told, entry_told}
 use Rattle.schedule_drive.specs.Laws.{DriveAppends}
-use Rattle.schedule_drive.specs.declared.told.Told.{Told}
-use Rattle.schedule_drive.specs.declared.told.Told.TheVariants as told
+use Rattle.schedule_report.specs.declared.told.Told.{Told}
+use Rattle.schedule_report.specs.declared.told.Told.TheVariants as told
 use Rattle.schedule_text.specs.declared.line.Line.{Line}
 use Rattle.schedule_text.specs.declared.line.Line.TheVariants as line
 use Rattle.serial_model.specs.declared.entry.Entry.{Entry}

@@ -5,9 +5,9 @@ use Rattle.core_syntax.specs.Table.{Table}
 use Rattle.schedule_drive.proofs.Drives.{appends_more, comes_appends, drives_append}
 use Rattle.schedule_drive.specs.Drive.{Comes, Drives, IsLater, Stage}
 use Rattle.schedule_drive.specs.Entries.{entries_told, entry_told}
-use Rattle.schedule_drive.specs.Report.{report_from, report_line}
+use Rattle.schedule_report.specs.Report.{report_from, report_line}
 use Rattle.schedule_drive.specs.UnderWay.{AreOf, IsDrivenSo, stage}
-use Rattle.schedule_drive.specs.declared.told.Told.{Told}
+use Rattle.schedule_report.specs.declared.told.Told.{Told}
 use Rattle.schedule_text.specs.declared.line.Line.{Line}
 use Rattle.shared_world.specs.Returned.{Returned}
 use Rattle.shared_world.specs.Shared.{Shared}

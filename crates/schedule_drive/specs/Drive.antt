@@ -1,10 +1,10 @@
 -- A world that is driven by the lines of a schedule.
 use Rattle.std.specs.Prelude.{◌≡◌, ◌∷◌, ◌&&◌, [], ℕ, Bool, true, false, List, Some, is_some, not}
 use Rattle.lent_pieces.specs.Claims.{IsAbandoned, IsClaimOn}
-use Rattle.schedule_drive.specs.Report.{report_text}
+use Rattle.schedule_report.specs.Report.{report_text}
 use Rattle.serial_model.specs.declared.entry.Entry.{Entry}
-use Rattle.schedule_drive.specs.declared.told.Told.{Told}
-use Rattle.schedule_drive.specs.declared.told.Told.TheVariants as told
+use Rattle.schedule_report.specs.declared.told.Told.{Told}
+use Rattle.schedule_report.specs.declared.told.Told.TheVariants as told
 use Rattle.schedule_text.specs.declared.line.Line.{Line}
 use Rattle.schedule_text.specs.declared.line.Line.TheVariants as line
 use Rattle.shared_world.specs.declared.given.Given.{Given}

@@ -1,8 +1,8 @@
 -- The entries that a report tells of.
 use Rattle.std.specs.Prelude.{[], List}
 use Rattle.std.specs.List.{flat_map}
-use Rattle.schedule_drive.specs.declared.told.Told.{Told}
-use Rattle.schedule_drive.specs.declared.told.Told.TheVariants as told
+use Rattle.schedule_report.specs.declared.told.Told.{Told}
+use Rattle.schedule_report.specs.declared.told.Told.TheVariants as told
 use Rattle.serial_model.specs.declared.entry.Entry.{Entry}
 use Rattle.shared_world.specs.Later.{settled_by}
 

@@ -1,7 +1,7 @@
 -- What holds of every drive.
 use Rattle.schedule_drive.specs.Drive.{IsDriven}
 use Rattle.schedule_drive.specs.Entries.{entries_told}
-use Rattle.schedule_drive.specs.declared.told.Told.{Told}
+use Rattle.schedule_report.specs.declared.told.Told.{Told}
 use Rattle.schedule_text.specs.declared.line.Line.{Line}
 use Rattle.shared_world.specs.Later.{Appends}
 use Rattle.shared_world.specs.Shared.{Shared}

@@ -1,5 +1,4 @@
 pub mod Drive
 pub mod Entries
 pub mod Laws
-pub mod Report
 pub mod UnderWay

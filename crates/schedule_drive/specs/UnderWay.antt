@@ -2,8 +2,8 @@
 use Rattle.std.specs.Prelude.{◌≡◌, [], ℕ, List, Some}
 use Rattle.core_syntax.specs.Table.{Table}
 use Rattle.schedule_drive.specs.Drive.{Comes, Drives, Stage}
-use Rattle.schedule_drive.specs.Report.{report_text}
-use Rattle.schedule_drive.specs.declared.told.Told.{Told}
+use Rattle.schedule_report.specs.Report.{report_text}
+use Rattle.schedule_report.specs.declared.told.Told.{Told}
 use Rattle.schedule_text.specs.declared.line.Line.{Line}
 use Rattle.shared_world.specs.Returned.{Returned}
 use Rattle.shared_world.specs.Shared.{Shared}

@@ -5,9 +5,7 @@ mod driving;
 mod kept;
 mod laws;
 mod lines;
-mod report;
-mod told;
 
 pub use driving::drive;
 pub use laws::drive_appends;
-pub use told::Told;
+pub use schedule_report::Told;

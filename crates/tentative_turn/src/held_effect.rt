@@ -1,5 +1,6 @@
 ghost use Rattle.std.specs.Prelude.{◌≡◌, [], ◌∷◌, ◌++◌, IfOk, OnErr, OnOk};
 ghost use Rattle.std.specs.Option.{option_copied};
+ghost use Rattle.tentative_turn.specs.declared.held_effect.HeldEffect.TheVariants as held;
 ghost use Rattle.tentative_turn.specs.Sending.{held_receiver, listed};
 
 use serial_model::{Answer, Entry, Request};
@@ -22,11 +23,8 @@ impl HeldEffect {
         ensures { IfOk result (λ copied. copied ≡ self.now) }
     {
         match self {
-            HeldEffect::Take(entry) => Ok(HeldEffect::Take(entry.copy(alloc)?)),
-            HeldEffect::Asked(request, answer) => {
-                let request = request.copy(alloc)?;
-                Ok(HeldEffect::Asked(request, answer.copy(alloc)?))
-            }
+            HeldEffect::Take(entry) => entry.copy(alloc).map(HeldEffect::Take),
+            HeldEffect::Asked(request, answer) => copy_asked(alloc, request, answer),
         }
     }
 
@@ -37,6 +35,20 @@ impl HeldEffect {
         match self {
             HeldEffect::Asked(Request::Send(to, _), _) => Some(to),
             _ => None,
+        }
+    }
+}
+
+/// An equal effect: that request, with the answer that it was given.
+fn copy_asked(alloc: Global, request: &Request, answer: &Answer) -> Result<HeldEffect, AllocError>
+    ensures { IfOk result (λ copied. copied ≡ held.Asked request.now answer.now) }
+{
+    let request = request.copy(alloc)?;
+    match answer.copy(alloc) {
+        Ok(answer) => Ok(HeldEffect::Asked(request, answer)),
+        Err(_) => {
+            drop(request);
+            Err(AllocError)
         }
     }
 }

@@ -5,8 +5,10 @@ ghost use Rattle.shared_world.specs.rows.Leading.{becomes_after, leads_on};
 ghost use Rattle.tentative_turn.specs.Sending.{request_receivers};
 ghost use Rattle.tentative_turn.specs.Turn.{is_turn, IsDosync, IsTake};
 ghost use Rattle.turns_ahead.specs.Leading.{ahead_of, becomes_or, begins, first_asked, hands_back, AreAsked, HasBegun, HasGone, HasSettled, IsLeftBy, IsLeftNext};
+ghost use Rattle.turns_ahead.specs.Next.{IsFirstHeld};
 ghost use Rattle.unit_table.specs.declared.unit.Becoming.{Becoming as Turning};
 
+use crate::next_held::NextHeld;
 use serial_model::{Entry, Request};
 use std::alloc::{AllocError, Global};
 use std::collections::VecDeque;
@@ -185,6 +187,27 @@ impl TurnAhead {
         match self.held.next_held() {
             Some(HeldEffect::Asked(request, _)) => Some(request),
             _ => None,
+        }
+    }
+
+    /// What it holds first; or it finds no memory, or holds nothing.
+    pub fn next_held(&self, alloc: Global) -> Result<NextHeld, AllocError>
+        ensures { IfOk result (IsFirstHeld self.now) }
+    {
+        match self.takes() {
+            Some(actor) => Ok(NextHeld::Begin(actor.copy(alloc)?)),
+            None => self.next_asked(alloc),
+        }
+    }
+
+    /// The request that it holds first, where its begin is not held.
+    fn next_asked(&self, alloc: Global) -> Result<NextHeld, AllocError>
+        requires { begins self.now.turn.effects ≡ None }
+        ensures { IfOk result (IsFirstHeld self.now) }
+    {
+        match self.first_request() {
+            Some(request) => Ok(NextHeld::Asked(request.copy(alloc)?)),
+            None => Err(AllocError),
         }
     }
 

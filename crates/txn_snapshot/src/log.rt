@@ -1,10 +1,14 @@
-ghost use Rattle.std.specs.Prelude.{◌≡◌, false, is_some, length, Some, IfOk, OnErr, OnOk};
+ghost use Rattle.std.specs.Prelude.{◌≡◌, false, is_some, length, None, Some, IfOk, OnErr, OnOk};
 ghost use Rattle.std.specs.Option.{option_copied, option_map, option_or};
-ghost use Rattle.serial_model.specs.Ahead.{answer_ahead};
+ghost use Rattle.serial_model.specs.Ahead.{answer_ahead, of_turn, self_of};
+ghost use Rattle.serial_model.specs.declared.answer.Answer.TheVariants as answer;
+ghost use Rattle.serial_model.specs.declared.request.Request.TheVariants as requests;
 ghost use Rattle.serial_model.specs.Sends.{effects_to};
 ghost use Rattle.serial_model.specs.Task.{done_by};
 ghost use Rattle.txn_snapshot.specs.SnapshotAnswer.{answer_of, reads_ref, replies, sets_ref, snapshot_of, IsAnswerable, NamesRef};
-ghost use Rattle.txn_snapshot.specs.SnapshotTask.{having_forked, having_merged, new_task, private, Stays};
+ghost use Rattle.txn_snapshot.specs.declared.answered.Answered.TheVariants as answered;
+ghost use Rattle.txn_snapshot.specs.SnapshotTask.{having_forked, having_merged, having_read, new_task, private, Stays};
+ghost use Rattle.value_core.specs.declared.value.Value.TheVariants as values;
 ghost use Rattle.value_core.specs.Named.{is_among, made_by, over};
 
 use crate::{Answered, ForkView, View};
@@ -15,7 +19,7 @@ use std::alloc::{AllocError, Global};
 use std::marker::Model;
 use task_log::acts::{new_ref, print, send, set_ref, spawn, turn_into};
 use task_log::{SharedList, TaskLog as OwnLog};
-use value_core::{Code, Name, Value};
+use value_core::{Code, Name, Value, Values};
 
 /// What a task of a transaction has done so far on a snapshot of the refs, and which refs it has read there. Copies share what
 /// they hold.
@@ -117,16 +121,40 @@ impl TaskLog {
         ensures same { OnErr result (self.new ≡ self.old) }
     {
         if let Some(value) = self.private(name) {
-            return Ok(Answered::Now(Answer::Value(value.copy(alloc)?)));
+            return given(alloc, value);
         }
         match stored {
-            Some(value) => {
-                let given = value.copy(alloc)?;
-                self.reads.add(name.copy(alloc)?)?;
-                Ok(Answered::Now(Answer::Value(given)))
-            }
-            None => Ok(Answered::NotInSnapshot(name.copy(alloc)?)),
+            Some(value) => self.read_stored(alloc, name, value),
+            None => absent(alloc, name),
         }
+    }
+
+    /// Answers a deref of the ref, of which the store alone has a value, and this one. The ref counts as read.
+    fn read_stored(
+        &mut self,
+        alloc: Global,
+        name: &Name,
+        value: &Value,
+    ) -> Result<Answered, AllocError>
+        ensures read { IfOk result (λ found. (found, self.new) ≡ reads_ref self.old name.now None (Some value.now)) }
+        ensures same { OnErr result (self.new ≡ self.old) }
+    {
+        let found = given(alloc, value)?;
+        match self.add_read(alloc, name) {
+            Ok(()) => Ok(found),
+            Err(_) => {
+                drop(found);
+                Err(AllocError)
+            }
+        }
+    }
+
+    /// The ref counts as read. For want of memory the log stays.
+    fn add_read(&mut self, alloc: Global, name: &Name) -> Result<(), AllocError>
+        ensures read { OnOk result (self.new ≡ having_read self.old name.now) }
+        ensures same { OnErr result (self.new ≡ self.old) }
+    {
+        self.reads.add(name.copy(alloc)?)
     }
 
     /// Answers a ref-set of the ref, of which the store has this value.
@@ -141,7 +169,7 @@ impl TaskLog {
         ensures same { OnErr result (self.new ≡ self.old) }
     {
         if self.private(name).is_none() && stored.is_none() {
-            return Ok(Answered::NotInSnapshot(name.copy(alloc)?));
+            return absent(alloc, name);
         }
         let name = name.copy(alloc)?;
         let content = content.copy(alloc)?;
@@ -181,10 +209,10 @@ impl TaskLog {
         ensures { IfOk result (λ found. found ≡ answer_of (reads_ref self.now name.now (private self.now name.now) (option_copied stored.entry))) }
     {
         match self.private(name) {
-            Some(value) => Ok(Answered::Now(Answer::Value(value.copy(alloc)?))),
+            Some(value) => given(alloc, value),
             None => match stored {
-                Some(value) => Ok(Answered::Now(Answer::Value(value.copy(alloc)?))),
-                None => Ok(Answered::NotInSnapshot(name.copy(alloc)?)),
+                Some(value) => given(alloc, value),
+                None => absent(alloc, name),
             },
         }
     }
@@ -200,9 +228,9 @@ impl TaskLog {
         ensures { IfOk result (λ found. found ≡ answer_of (sets_ref self.now name.now content.now (option_or (private self.now name.now) (option_copied stored.entry)))) }
     {
         if !self.holds(name) && stored.is_none() {
-            return Ok(Answered::NotInSnapshot(name.copy(alloc)?));
+            return absent(alloc, name);
         }
-        Ok(Answered::Now(Answer::Value(content.copy(alloc)?)))
+        given(alloc, content)
     }
 
     /// The value of the ref in the own writes, or else in the view.
@@ -341,19 +369,43 @@ fn act(
         Request::Print(text) => print(alloc, log, text.copy(alloc)?),
         Request::NewRef(content) => new_ref(alloc, log, content.copy(alloc)?),
         Request::Spawn(behaviour, state) => spawn(alloc, log, *behaviour, state.copy()?),
-        Request::Send(to, message) => {
-            let message = message.copy()?;
-            send(alloc, log, to.copy(alloc)?, message)
-        }
-        Request::Become(behaviour, state) => match actor {
-            Some(_) => turn_into(alloc, log, *behaviour, state.copy()?),
-            None => Ok(Answer::Fault(Code::NoTurn)),
-        },
-        Request::SelfActor => match actor {
-            Some(actor) => Ok(Answer::Value(Value::Actor(actor.copy(alloc)?))),
-            None => Ok(Answer::Fault(Code::NoTurn)),
-        },
+        Request::Send(to, message) => act_send(log, alloc, to, message),
+        Request::Become(behaviour, state) => act_become(log, alloc, actor, *behaviour, state),
+        Request::SelfActor => own_actor(alloc, actor),
         _ => unreachable!(),
+    }
+}
+
+/// Sends the message to that actor.
+fn act_send(
+    log: &mut OwnLog,
+    alloc: Global,
+    to: &Name,
+    message: &Values,
+) -> Result<Answer, AllocError>
+    ensures answer { IfOk result (λ given. given ≡ answer.Value values.Nil) }
+    ensures log { OnOk result (log.new ≡ done_by None log.old (requests.Send to.now message.now)) }
+    ensures same { OnErr result (log.new ≡ log.old) }
+{
+    let message = message.copy()?;
+    send(alloc, log, to.copy(alloc)?, message)
+}
+
+/// The actor of the turn becomes that at its end; where there is no turn it is a fault.
+fn act_become(
+    log: &mut OwnLog,
+    alloc: Global,
+    actor: &Option<Name>,
+    behaviour: u32,
+    state: &Values,
+) -> Result<Answer, AllocError>
+    ensures answer { IfOk result (λ given. given ≡ of_turn actor.now (answer.Value values.Nil)) }
+    ensures log { OnOk result (log.new ≡ done_by actor.now log.old (requests.Become behaviour state.now)) }
+    ensures same { OnErr result (log.new ≡ log.old) }
+{
+    match actor {
+        Some(_) => turn_into(alloc, log, behaviour, state.copy()?),
+        None => Ok(Answer::Fault(Code::NoTurn)),
     }
 }
 
@@ -377,12 +429,33 @@ fn ahead(
             Some(_) => Ok(Answer::Value(Value::Nil)),
             None => Ok(Answer::Fault(Code::NoTurn)),
         },
-        Request::SelfActor => match actor {
-            Some(actor) => Ok(Answer::Value(Value::Actor(actor.copy(alloc)?))),
-            None => Ok(Answer::Fault(Code::NoTurn)),
-        },
+        Request::SelfActor => own_actor(alloc, actor),
         _ => unreachable!(),
     }
+}
+
+/// The actor of the turn; where there is no turn it is a fault.
+fn own_actor(alloc: Global, actor: &Option<Name>) -> Result<Answer, AllocError>
+    ensures { IfOk result (λ given. given ≡ self_of actor.now) }
+{
+    match actor {
+        Some(actor) => Ok(Answer::Value(Value::Actor(actor.copy(alloc)?))),
+        None => Ok(Answer::Fault(Code::NoTurn)),
+    }
+}
+
+/// The answer that is that value.
+fn given(alloc: Global, value: &Value) -> Result<Answered, AllocError>
+    ensures { IfOk result (λ found. found ≡ answered.Now (answer.Value value.now)) }
+{
+    Ok(Answered::Now(Answer::Value(value.copy(alloc)?)))
+}
+
+/// The answer that names the ref, of which nobody has a value.
+fn absent(alloc: Global, name: &Name) -> Result<Answered, AllocError>
+    ensures { IfOk result (λ found. found ≡ answered.NotInSnapshot name.now) }
+{
+    Ok(Answered::NotInSnapshot(name.copy(alloc)?))
 }
 
 /// The same actor, or none.

@@ -7,12 +7,13 @@ use Rattle.core_syntax.specs.declared.node_id.NodeId.{NodeId}
 use Rattle.eval_step.specs.Evaluation.{Evaluation}
 use Rattle.world_steps.proofs.Forking.{same-unit}
 use Rattle.world_steps.proofs.Settling.{claims-end, row-for, unlent-after}
-use Rattle.world_steps.specs.declared.attempts.Trying.{Trying}
+use Rattle.attempt_names.specs.declared.trying.Trying.{Trying}
+use Rattle.attempt_names.specs.Trying.{AreTryingNames}
 use Rattle.world_steps.specs.declared.kept.Kept.{Kept}
 use Rattle.world_steps.specs.Kept.{IsSameBut, IsUnitOf, shared_of}
 use Rattle.world_steps.specs.Rows.{BeginsOr, Comes, HasBegun}
 use Rattle.world_steps.specs.Moved.{IsMoved}
-use Rattle.world_steps.specs.Trying.{AreTryingNames, HasRoot, HasTried}
+use Rattle.world_steps.specs.Trying.{HasRoot, HasTried}
 use Rattle.serial_model.specs.Step.{next_made}
 use Rattle.serial_model.specs.declared.halt.Halt.TheVariants as halt
 use Rattle.serial_model.specs.declared.request.Request.TheVariants as request

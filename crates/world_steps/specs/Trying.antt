@@ -2,7 +2,8 @@
 use Rattle.std.specs.Prelude.{◌≡◌, ℕ, Bool, List, length, None, Some}
 use Rattle.core_syntax.specs.declared.node_id.NodeId.{NodeId}
 use Rattle.eval_step.specs.Evaluation.{Evaluation}
-use Rattle.world_steps.specs.declared.attempts.Trying.{Trying}
+use Rattle.attempt_names.specs.declared.trying.Trying.{Trying}
+use Rattle.attempt_names.specs.Trying.{AreTryingNames}
 use Rattle.world_steps.specs.declared.kept.Kept.{Kept}
 use Rattle.world_steps.specs.Kept.{IsSameBut, shared_of}
 use Rattle.shared_world.specs.declared.given.Given.{Given}
@@ -19,16 +20,9 @@ use Rattle.unit_table.specs.declared.mark.Work.TheVariants as work
 use Rattle.unit_table.specs.declared.piece.Piece.TheVariants as piece
 use Rattle.unit_table.specs.declared.unit.Unit.{Unit}
 use Rattle.value_core.specs.declared.value.Value.{Value}
-use Rattle.value_core.specs.Named.{Name, made_by, named, with_named}
+use Rattle.value_core.specs.Named.{Name, named, with_named}
 use Rattle.value_core.specs.Place.{Spot}
 use Rattle.value_core.specs.Placed.{HasPlace as HasOwnerPlace}
-
--- the names of an attempt of a unit that has made so many things
-pub record AreTryingNames (name : Name) (made snapshot : ℕ) (t : Trying) : Type 0 where
-  pub root : t.root ≡ made_by name made
-  pub wait : t.wait ≡ made_by name made
-  pub owner : t.owner ≡ name
-  pub snapshot_is : t.snapshot ≡ snapshot
 
 -- there is room for the root of an attempt of the unit, and nothing stands under its name
 pub record HasRootRoom (k : Kept) (name : Name) (t : Trying) : Type 0 where

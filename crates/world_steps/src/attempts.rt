@@ -5,7 +5,7 @@ ghost use Rattle.std.specs.Option.{option_copied, IsSome};
 ghost use Rattle.eval_step.specs.Evaluation.{IsAsking};
 ghost use Rattle.world_steps.specs.Kept.{shared_of, IsSameBut, IsUnitOf};
 ghost use Rattle.world_steps.specs.Rows.{BeginsOr, Comes};
-ghost use Rattle.world_steps.specs.Trying.{AreTrying, AreTryingNames, HasRoot, HasRootRoom, HasTried, IsTree};
+ghost use Rattle.world_steps.specs.Trying.{AreTrying, HasRoot, HasRootRoom, HasTried, IsTree};
 ghost use Rattle.serial_model.specs.declared.halt.Halt.TheVariants as halts;
 ghost use Rattle.serial_model.specs.declared.request.Request.TheVariants as requests;
 ghost use Rattle.shared_world.specs.rows.Leading.{mark_ahead};
@@ -19,6 +19,7 @@ ghost use Rattle.unit_table.specs.declared.piece.Piece.TheVariants as pieces;
 ghost use Rattle.value_core.specs.Named.{Name as Called, named};
 
 use crate::kept::{Kept, move_to};
+use attempt_names::{Trying, trying_names};
 use core_syntax::NodeId;
 use eval_step::Machine;
 use shared_world::Given;
@@ -27,16 +28,6 @@ use task_fork_join::Tree;
 use unit_table::{Mark, UnitKind, Units, WaitOn, Work};
 use value_core::name_map::{find, put};
 use value_core::{Name, Place, Values};
-
-/// An attempt that begins: its root, and the same for the wait of its unit; its unit, as the owner of the root; and the number of
-/// entries.
-#[derive(Drop)]
-pub(crate) struct Trying {
-    pub(crate) root: Name,
-    pub(crate) wait: Name,
-    pub(crate) owner: Name,
-    pub(crate) snapshot: u64,
-}
 
 impl Kept {
     /// An attempt at the unit's transaction begins.
@@ -108,8 +99,7 @@ impl Kept {
         ensures trying { IfOk result (AreTrying self.new name.now) }
     {
         self.check_free(name)?;
-        let snapshot = self.entries()?;
-        let trying = trying_names(alloc, name, self.made_of(name), snapshot)?;
+        let trying = trying_names(alloc, name, self.made_of(name), &self.history)?;
         self.reserve_new(alloc, &trying.root)?;
         self.owners.prepare(trying.root.copy(alloc)?)?;
         Ok(trying)
@@ -123,13 +113,6 @@ impl Kept {
             Some(_) => Err(AllocError),
             None => Ok(()),
         }
-    }
-
-    /// How many entries the history has.
-    fn entries(&self) -> Result<u64, AllocError>
-        ensures { IfOk result (λ number. number ≡ length self.now.history.items) }
-    {
-        u64::try_from(self.history.entries().len()).map_err(|_| AllocError)
     }
 
     /// A tree of the root alone, which is to evaluate that body.
@@ -203,21 +186,6 @@ fn mark_of(settles: bool, wait: Name) -> Mark
     } else {
         Mark::Waiting(WaitOn::Finish(wait))
     }
-}
-
-/// The names of an attempt of a unit that has made so many things, on that snapshot.
-fn trying_names(alloc: Global, name: &Name, made: u32, snapshot: u64) -> Result<Trying, AllocError>
-    ensures { IfOk result (AreTryingNames name.now made snapshot) }
-{
-    let root = name.child(alloc, made)?;
-    let wait = root.copy(alloc)?;
-    let owner = name.copy(alloc)?;
-    Ok(Trying {
-        root,
-        wait,
-        owner,
-        snapshot,
-    })
 }
 
 /// Adds a task under the name, for which there is a place.

@@ -6,4 +6,4 @@ use Rattle.ahead_settling.proofs.settling.next_held.Goals as goal
 use Rattle.world_steps.specs.Kept.{shared_of}
 
 pub returns-in-Some : goal.returns-in-Some
-returns-in-Some c = IfOk-weaker c.first_held.result _ _ (λ n first. next-is (shared_of c.args.kept.now) c.args.name.now c.args.kept.now.aheads.entries c.in-Some.turn.now n refl (sym c.find.ensures ∙ ap option_copied c.in-Some.is) first) c.first_held.ensures
+returns-in-Some c = IfOk-weaker c.next_held.result _ _ (λ n first. next-is (shared_of c.args.kept.now) c.args.name.now c.args.kept.now.aheads.entries c.in-Some.turn.now n refl (sym c.find.ensures ∙ ap option_copied c.in-Some.is) first) c.next_held.ensures

@@ -1,5 +1,5 @@
 ghost use Rattle.std.specs.Prelude.{◌≡◌, ◌++◌, OnOk, codes};
-ghost use Rattle.schedule_drive.specs.Report.{given_text, report_line, told_text};
+ghost use Rattle.schedule_report.specs.Report.{given_text, report_line, told_text};
 ghost use Rattle.serial_model.specs.Trace.{line_of};
 ghost use Rattle.shared_world.specs.declared.given.Given.TheVariants as given;
 
@@ -12,7 +12,7 @@ use unit_table::WaitOn;
 use value_core::{Name, Text};
 
 /// Appends the line of a report: the number of the schedule's line, and what came of it.
-pub(crate) fn push_report(
+pub fn push_report(
     alloc: Global,
     text: &mut Text,
     number: u64,

@@ -1,7 +1,7 @@
 -- The report of what came of the lines of a schedule.
 use Rattle.std.specs.Prelude.{ℕ, ◌+◌, List, [], ◌∷◌, ◌++◌, codes, decimal}
-use Rattle.schedule_drive.specs.declared.told.Told.{Told}
-use Rattle.schedule_drive.specs.declared.told.Told.TheVariants as told
+use Rattle.schedule_report.specs.declared.told.Told.{Told}
+use Rattle.schedule_report.specs.declared.told.Told.TheVariants as told
 use Rattle.serial_model.specs.Trace.{entry_text, line_of}
 use Rattle.shared_world.specs.declared.given.Given.{Given}
 use Rattle.shared_world.specs.declared.given.Given.TheVariants as given
