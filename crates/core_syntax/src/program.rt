@@ -57,11 +57,15 @@ impl Program {
         requires can_finish { CanFinish rows steps functions written behaviours }
         ensures { IfOk result (λ program. program ≡ finished rows steps functions written behaviours) }
     {
-        let main = next_id(&rows)?;
-        let behaviour_count = as_number(behaviours.items().len())?;
-        let global_count = binding_count(&steps)?;
+        let Ok((main, behaviour_count, global_count)) = counts_of(&rows, &behaviours, &steps) else {
+            drop((rows, steps, functions, behaviours));
+            return Err(AllocError);
+        };
         let row = main_row(steps);
-        add(&mut rows, row)?;
+        let Ok(()) = add(&mut rows, row) else {
+            drop((rows, functions, behaviours));
+            return Err(AllocError);
+        };
         Ok(Program {
             rows,
             functions,
@@ -139,6 +143,21 @@ impl Program {
     {
         self.global_count
     }
+}
+
+// The node that comes behind these, how many behaviours there are, and how many steps bind.
+fn counts_of(
+    rows: &Seq<Row>,
+    behaviours: &Behaviours,
+    steps: &Steps,
+) -> Result<(NodeId, u32, u32), AllocError>
+    ensures main { IfOk result (λ n. n.0.index ≡ length rows.now) }
+    ensures behaviours { IfOk result (λ n. n.1 ≡ length behaviours.now) }
+    ensures globals { IfOk result (λ n. n.2 ≡ count_by (λ step. step.binds) steps.now) }
+{
+    let main = next_id(rows)?;
+    let behaviour_count = as_number(behaviours.items().len())?;
+    Ok((main, behaviour_count, binding_count(steps)?))
 }
 
 // How many steps bind.
