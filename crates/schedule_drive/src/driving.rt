@@ -3,10 +3,9 @@ ghost use Rattle.schedule_drive.specs.Drive.{Abandons, IsLater, IsReported};
 ghost use Rattle.schedule_drive.specs.UnderWay.{IsDrivenSo};
 
 use crate::lines::do_line;
-use crate::report::push_report;
-use crate::told::Told;
 use core_syntax::Program;
 use interleave_core::World;
+use schedule_report::{Told, push_report};
 use schedule_text::Lines;
 use std::alloc::{AllocError, Global};
 use std::collections::BTreeMap;

@@ -8,9 +8,9 @@ ghost use Rattle.shared_world.specs.Gave.{Gave};
 ghost use Rattle.shared_world.specs.Shared.{ready};
 
 use crate::kept::{is_kept, keep, take};
-use crate::told::Told;
 use core_syntax::Program;
 use interleave_core::World;
+use schedule_report::Told;
 use schedule_text::Line;
 use shared_world::Given;
 use std::alloc::{AllocError, Global};
