@@ -1,6 +1,7 @@
 -- What is owed to the words of a command line.
 use Rattle.std.specs.Prelude.{◌≡◌, ℕ, List, Option, None, Some}
 use Rattle.command_words.specs.Said.{command_of}
+use Rattle.said_commands.specs.declared.command.Command.{Command}
 use Rattle.said_commands.specs.declared.command.Command.TheVariants as said
 use Rattle.serial_model.specs.Limits.{Budget}
 use Rattle.command_phases.specs.declared.outcome.Outcome.{Outcome}
@@ -29,3 +30,7 @@ pub record Answers (words : List (List ℕ)) (before after : Seen) (outcome : Ou
   pub no_command : command_of words ≡ None → NoCommand before after outcome
   pub usage : outcome.status ≡ exit.usage → command_of words ≡ None
   pub no_count_falls : IsLater before after
+
+-- what is owed to that command, by whatever words it is said
+abbrev pub IsOwed : Command → Seen → Seen → Outcome → Type 0
+IsOwed command before after outcome = (words : List (List ℕ)) → command_of words ≡ Some command → Answers words before after outcome

@@ -1,7 +1,8 @@
 ghost use Rattle.std.specs.Prelude.{map};
 ghost use Rattle.std.specs.String.{string_bytes};
-ghost use Rattle.chocola.specs.Answers.{Answers};
+ghost use Rattle.chocola.specs.Answers.{Answers, IsOwed};
 ghost use Rattle.command_phases.specs.Seen.{seen};
+ghost use Rattle.serial_commands.specs.Outside.{seen_after, seen_before};
 
 use command_phases::{Detail, Outcome, USAGE, out_of_memory, say_usage};
 use command_words::{Command, WordsNo, read_words};
@@ -47,36 +48,47 @@ pub fn chocola<R: Threads + Wait + Sync, F: Files, K: Sink + Send, E: Sink, G: G
 {
     let outside = Outside { files, out, err };
     match read_words(alloc, words) {
-        Ok(
-            Command::Run {
-                file,
-                workers,
-                limits,
-                trace,
-            },
-        ) => run_file(rt, alloc, &file, workers, limits, &trace, outside, gate),
-        Ok(
-            Command::Schedule {
-                file,
-                schedule,
-                limits,
-                trace,
-            },
-        ) => schedule_file(alloc, &file, &schedule, limits, &trace, outside),
-        Ok(Command::Replay { file, trace }) => { replay_file(alloc, &file, &trace, outside) }
-        Ok(Command::Check { file }) => check_file(alloc, &file, outside),
-        Ok(Command::Make { number, size }) => make_program(alloc, number, size, outside),
-        Ok(
-            Command::Stress {
-                number,
-                size,
-                workers,
-            },
-        ) => stress_program(rt, alloc, number, size, workers, outside, gate),
+        Ok(command) => obey(rt, alloc, command, outside, gate),
         Err(WordsNo::Usage) => {
             say_usage(outside.err);
             Outcome::without_run(alloc, USAGE, Detail::Nothing)
         }
         Err(WordsNo::Memory) => out_of_memory(alloc, outside.err),
+    }
+}
+
+/// Does what the command says.
+fn obey<'a, R: Threads + Wait + Sync, F: Files, K: Sink + Send, E: Sink, G: Gate + Sync>(
+    rt: &R,
+    alloc: Global,
+    command: Command,
+    outside: Outside<'a, F, K, E>,
+    gate: &G,
+) -> Outcome
+    ensures { IsOwed command
+        (seen_before F.seen K.seen E.seen outside.entry)
+        (seen_after F.seen K.seen E.seen outside.exit) result }
+{
+    match command {
+        Command::Run {
+            file,
+            workers,
+            limits,
+            trace,
+        } => run_file(rt, alloc, &file, workers, limits, &trace, outside, gate),
+        Command::Schedule {
+            file,
+            schedule,
+            limits,
+            trace,
+        } => schedule_file(alloc, &file, &schedule, limits, &trace, outside),
+        Command::Replay { file, trace } => replay_file(alloc, &file, &trace, outside),
+        Command::Check { file } => check_file(alloc, &file, outside),
+        Command::Make { number, size } => make_program(alloc, number, size, outside),
+        Command::Stress {
+            number,
+            size,
+            workers,
+        } => stress_program(rt, alloc, number, size, workers, outside, gate),
     }
 }
